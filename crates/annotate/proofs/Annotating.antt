@@ -1,19 +1,19 @@
 -- Comments that come out of a source, and their making.
-use Rattle.std.proofs.Common.{◌≡◌, ℕ, zero, suc, ◌+◌, ◌-◌, ◌<◌, ◌≤◌, ◌⊎◌, inl, inr, Bool, false, true, ◌&&◌, if◌then◌else◌, List, [], ◌∷◌}
+use Rattle.std.proofs.Common.{◌≡◌, ℕ, zero, suc, ◌+◌, ◌-◌, ◌<◌, ◌≤◌, ◌⊎◌, inl, inr, Bool, true, ◌&&◌, if◌then◌else◌, List, [], ◌∷◌}
 use Rattle.std.proofs.Common.{◌++◌, length, take, drop, slice_get, slice_set, Option, Some, None, Vec, codes, nat_eq, refl, sym, ◌∙◌, ap}
 use Rattle.std.proofs.Common.{subst, arith, append-nil, append_assoc}
 use Rattle.std.specs.Global.{Global}
 use Rattle.std.specs.List.{flat_map}
-use Rattle.std.proofs.lemmas.Bool.{cases_order, eq-eqb}
+use Rattle.std.proofs.lemmas.Bool.{cases_order, eq-eqb, ne_eqb}
 use Rattle.std.proofs.lemmas.List.{take-append-drop}
 use Rattle.std.proofs.lemmas.Option.{slice_get_within}
+use Rattle.qual_base.proofs.Tests.{and_false, some_is}
 use Rattle.qual_types.specs.Positions.{PositionView}
 use Rattle.annotate.specs.declared.listing.Listing.{Listing}
 use Rattle.annotate.specs.Texts.{Scene}
 use Rattle.annotate.specs.Annotated.{pieces_from, with_comments, without_comments, comment_text, CommentsComeOut, item_at, item_text}
 use Rattle.annotate.specs.Annotated.{items_at, behind}
 use Rattle.annotate.specs.Comments.{opened, begun_with, closed, HoldComments, AreComments}
-use Rattle.annotate.proofs.SceneLemmas.{not_equal}
 
 -- the pieces without their comments are what was left of the source
 come_out_from : (items : ℕ → List (List ℕ)) (ends : ℕ → ℕ) (at : ℕ) (left : List ℕ) (token more : ℕ) →
@@ -26,7 +26,8 @@ come_out_from items ends at left token (suc more) =
 
 pub come_out : CommentsComeOut
 come_out scene lexed listings =
-    come_out_from (λ token. items_at scene lexed.unit token listings) (behind lexed) 0 lexed.bytes 0 (length lexed.tokens)
+    come_out_from (λ token. items_at scene lexed.unit token listings) (behind lexed) 0 lexed.bytes 0
+    (length lexed.tokens)
 
 -- a comment with its end is the text of its items
 closed_is : (items : List (List ℕ)) → closed (opened items) ≡ comment_text items
@@ -68,14 +69,12 @@ last_piece items ends at n count left out past =
 
 -- before the first token the pieces are those of all bytes of the unit
 pub first_pieces : (items : ℕ → List (List ℕ)) (ends : ℕ → ℕ) (count : ℕ) (left bytes out : List ℕ) → left ≡ bytes →
-    out ++ with_comments (pieces_from items ends 0 left 0 (count - 0)) ≡ out ++ with_comments (pieces_from items ends 0 bytes 0 count)
+    out ++ with_comments (pieces_from items ends 0 left 0 (count - 0)) ≡ out
+    ++ with_comments (pieces_from items ends 0 bytes 0 count)
 first_pieces items ends count left bytes out is =
     let all : count - 0 ≡ count = omega arith in
     ap (λ (l : List ℕ). out ++ with_comments (pieces_from items ends 0 l 0 (count - 0))) is
     ∙ ap (λ k. out ++ with_comments (pieces_from items ends 0 bytes 0 k)) all
-
-some_is : {A : Type 0} {x y : A} → Some x ≡ Some y → x ≡ y
-some_is e = cc
 
 -- no texts, and so many empty texts and one more
 pub hold_none : (length {A = Vec ℕ Global} [] ≡ 0) × HoldComments (λ token. []) []
@@ -95,23 +94,28 @@ hold_one_more (x ∷ xs) text empty hold (suc token) comment there =
 more_items : (scene : Scene) (unit token : ℕ) (before : List Listing) (listing : Listing) →
     items_at scene unit token (before ++ listing ∷ [])
     ≡ items_at scene unit token before ++ item_at scene unit token listing (slice_get scene.positions listing.var)
-more_items scene unit token [] listing = append-nil (item_at scene unit token listing (slice_get scene.positions listing.var))
+more_items scene unit token [] listing =
+    append-nil (item_at scene unit token listing (slice_get scene.positions listing.var))
 more_items scene unit token (l ∷ ls) listing =
     let here = item_at scene unit token l (slice_get scene.positions l.var) in
     ap (λ (items : List (List ℕ)). here ++ items) (more_items scene unit token ls listing)
-    ∙ sym (append_assoc here (items_at scene unit token ls) (item_at scene unit token listing (slice_get scene.positions listing.var)))
+    ∙ sym (append_assoc here (items_at scene unit token ls)
+    (item_at scene unit token listing (slice_get scene.positions listing.var)))
 
 -- an element that is listed without an item at a token leaves the items of this token as they were
 same_items : (scene : Scene) (unit token : ℕ) (before : List Listing) (listing : Listing) →
     item_at scene unit token listing (slice_get scene.positions listing.var) ≡ [] →
     items_at scene unit token before ≡ items_at scene unit token (before ++ listing ∷ [])
 same_items scene unit token before listing none =
-    sym (more_items scene unit token before listing ∙ ap (λ (items : List (List ℕ)). items_at scene unit token before ++ items) none
+    sym (more_items scene unit token before listing
+    ∙ ap (λ (items : List (List ℕ)). items_at scene unit token before ++ items) none
     ∙ append-nil (items_at scene unit token before))
 
 -- an element that stands at no token of the unit changes no comment
-pub none_more : (scene : Scene) (unit : ℕ) (before : List Listing) (listing : Listing) (comments : List (Vec ℕ Global)) →
-    ((token : ℕ) → token < length comments → item_at scene unit token listing (slice_get scene.positions listing.var) ≡ []) →
+pub none_more : (scene : Scene) (unit : ℕ) (before : List Listing) (listing : Listing)
+    (comments : List (Vec ℕ Global)) →
+    ((token : ℕ) → token < length comments
+    → item_at scene unit token listing (slice_get scene.positions listing.var) ≡ []) →
     AreComments scene unit before comments → AreComments scene unit (before ++ listing ∷ []) comments
 none_more scene unit before listing comments none are token comment there =
     are token comment there ∙ ap opened
@@ -123,24 +127,23 @@ pub no_item : (scene : Scene) (unit token : ℕ) (listing : Listing) (found : Op
 no_item scene unit token listing found is = ap (item_at scene unit token listing) is
 
 -- an element of a variable in another unit has no item at a token
-pub other_unit : (scene : Scene) (unit token : ℕ) (listing : Listing) (found : Option PositionView) (at : PositionView) →
+pub other_unit : (scene : Scene) (unit token : ℕ) (listing : Listing) (found : Option PositionView)
+    (at : PositionView) →
     found ≡ Some at → (at.unit ≡ unit → ⊥) → item_at scene unit token listing found ≡ []
 other_unit scene unit token listing found at is other =
     ap (item_at scene unit token listing) is
     ∙ ap (λ (same : Bool). if same && nat_eq at.token token then item_text scene at.path listing ∷ [] else [])
-    (not_equal at.unit unit other)
-
-false_and : (b : Bool) → b && false ≡ false
-false_and true = refl
-false_and false = refl
+    (ne_eqb at.unit unit other)
 
 -- an element of a variable at another token has no item at this one
-pub other_token : (scene : Scene) (unit token : ℕ) (listing : Listing) (found : Option PositionView) (at : PositionView) →
+pub other_token : (scene : Scene) (unit token : ℕ) (listing : Listing) (found : Option PositionView)
+    (at : PositionView) →
     found ≡ Some at → (at.token ≡ token → ⊥) → item_at scene unit token listing found ≡ []
 other_token scene unit token listing found at is other =
     let If : Bool → List (List ℕ) = λ same. if same then item_text scene at.path listing ∷ [] else [] in
     ap (item_at scene unit token listing) is
-    ∙ ap If (ap (λ (same : Bool). nat_eq at.unit unit && same) (not_equal at.token token other) ∙ false_and (nat_eq at.unit unit))
+    ∙ ap If (ap (λ (same : Bool). nat_eq at.unit unit && same) (ne_eqb at.token token other)
+    ∙ and_false (nat_eq at.unit unit))
 
 -- where it stands at this one
 this_token : (scene : Scene) (unit token : ℕ) (listing : Listing) (found : Option PositionView) (at : PositionView)
@@ -185,7 +188,8 @@ set_there [] n token new comment other there = there
 set_there (x ∷ xs) zero zero new comment other there = absurd (other refl)
 set_there (x ∷ xs) zero (suc token) new comment other there = there
 set_there (x ∷ xs) (suc n) zero new comment other there = there
-set_there (x ∷ xs) (suc n) (suc token) new comment other there = set_there xs n token new comment (λ same. other (ap suc same)) there
+set_there (x ∷ xs) (suc n) (suc token) new comment other there =
+    set_there xs n token new comment (λ same. other (ap suc same)) there
 
 -- an element that stands at a token of the unit changes the comment of this token
 pub one_more : (scene : Scene) (unit : ℕ) (before : List Listing) (listing : Listing) (comments : List (Vec ℕ Global))
@@ -194,7 +198,8 @@ pub one_more : (scene : Scene) (unit : ℕ) (before : List Listing) (listing : L
     slice_get comments n ≡ Some old →
     new.items ≡ begun_with old.items ++ item_text scene at.path listing → AreComments scene unit before comments →
     AreComments scene unit (before ++ listing ∷ []) (slice_set comments n new)
-one_more scene unit before listing comments at n old new found same_unit same_token within was now are token comment there =
+one_more scene unit before listing comments at n old new found same_unit same_token within was now are token comment
+    there =
     by_order (cases_order n token)
   where
     elsewhere : (n ≡ token → ⊥) → comment.items ≡ opened (items_at scene unit token (before ++ listing ∷ []))

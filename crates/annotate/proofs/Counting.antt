@@ -42,7 +42,8 @@ over_counted scene sys _ _ n (OneHolds number count before holds) below over =
 
 -- the count with one constraint more, by what was found of it
 pub one_more : {A : Type 0} (lent : Lent) (sys : System) (number count at : ℕ) (found : Option A) → at ≡ number →
-    CountsOver lent sys number count → IfSome found (λ a. (s : Scene) → Shows lent s → IsOver s sys at) → is_some found ≡ true →
+    CountsOver lent sys number count → IfSome found (λ a. (s : Scene) → Shows lent s → IsOver s sys at)
+    → is_some found ≡ true →
     CountsOver lent sys (number + 1) (count + 1)
 one_more lent sys number count at found same before over some s shows =
     let Over : ℕ → Type 0 = λ n. IsOver s sys n in
@@ -51,7 +52,8 @@ one_more lent sys number count at found same before over some s shows =
 
 -- a constraint that is no exceeded bound leaves the count as it was for those up to it
 pub none_more : {A : Type 0} (lent : Lent) (sys : System) (number count at : ℕ) (found : Option A) → at ≡ number →
-    CountsOver lent sys number count → IfNone found ((s : Scene) → Shows lent s → IsOver s sys at → ⊥) → is_some found ≡ false →
+    CountsOver lent sys number count → IfNone found ((s : Scene) → Shows lent s → IsOver s sys at → ⊥)
+    → is_some found ≡ false →
     CountsOver lent sys (number + 1) count
 none_more lent sys number count at found same before holds none s shows =
     let Over : ℕ → Type 0 = λ n. IsOver s sys n in

@@ -5,6 +5,7 @@ use Rattle.std.proofs.lemmas.Bool.{cases_order}
 use Rattle.std.proofs.lemmas.Bool.Decides.{leb_tells}
 use Rattle.lattice_core.specs.Order.{Order}
 use Rattle.lattice_core.specs.View.{LatticeView, orders_of}
+use Rattle.lattice_core.proofs.Orders.{order_there}
 use Rattle.flow_graph.specs.System.{System}
 use Rattle.flow_graph.specs.Unfolding.{IsExceeded}
 use Rattle.lattice_solver.specs.Solution.{IsKept, IsFirstExceeded}
@@ -14,7 +15,6 @@ use Rattle.annotate.specs.Texts.{Scene}
 use Rattle.annotate.specs.Scenes.{Shows}
 use Rattle.annotate.specs.Solutions.{IsFirstOver, AreKept, earlier}
 use Rattle.annotate.specs.Reports.{IsOver, Errors, NoConstraint, NextError, NotExceeded, ErrorCount, NoneBelow, OneHolds}
-use Rattle.annotate.proofs.LatticeLemmas.{order_there}
 use Rattle.annotate.proofs.SolutionLemmas.{KeptBelow, kept_next}
 
 -- a number stands before one that may not be there
@@ -46,7 +46,8 @@ none_first lent sys solutions = record {
 
 -- what one lattice more says
 pub record Own (lent : Lent) (sys : System) (solutions : List Solved) (count : ℕ) (found : Option ℕ) : Type 0 where
-  pub kept : IfNone found (KeptBelow sys lent.lattices.now solutions count → KeptBelow sys lent.lattices.now solutions (count + 1))
+  pub kept : IfNone found (KeptBelow sys lent.lattices.now solutions count
+      → KeptBelow sys lent.lattices.now solutions (count + 1))
   pub over : IfSome found (IsOverThere lent sys)
   pub before : (n : ℕ) → IsBefore n found → (scene : Scene) → Shows lent scene → (order : Order)
       → slice_get (orders_of scene.lattices) count ≡ Some order → IsExceeded sys count order n → ⊥
@@ -116,7 +117,8 @@ pub next_first : (lent : Lent) (sys : System) (solutions : List Solved) (count :
     → AreFirst lent sys solutions (count + 1) next
 next_first lent sys solutions count first found next is are own =
     subst (AreFirst lent sys solutions (count + 1)) (sym is) (record {
-      kept = kept_both (KeptBelow sys lent.lattices.now solutions count) (KeptBelow sys lent.lattices.now solutions (count + 1)) first found are.kept own.kept;
+      kept = kept_both (KeptBelow sys lent.lattices.now solutions count)
+          (KeptBelow sys lent.lattices.now solutions (count + 1)) first found are.kept own.kept;
       over = over_one (IsOverThere lent sys) first found are.over own.over;
       before = λ n earlier_is.
           one_more lent sys count n (are.before n (before_one n first found earlier_is))
@@ -143,7 +145,8 @@ own_of lent sys solutions count view solution found there at same first kept = r
 }
   where
     kept_in : (found : Option ℕ) → IfNone found (IsKept sys solution.solver view.order)
-        → IfNone found (KeptBelow sys lent.lattices.now solutions count → KeptBelow sys lent.lattices.now solutions (count + 1))
+        → IfNone found (KeptBelow sys lent.lattices.now solutions count
+        → KeptBelow sys lent.lattices.now solutions (count + 1))
     kept_in None is = kept_next sys lent.lattices.now solutions count view solution there at is
     kept_in (Some n) is = tt
 
@@ -178,8 +181,10 @@ first_of_all lent sys solutions count (Some first) le are = record {
   over = are.over.1;
   before = λ scene shows n lt over.
       let Within : List LatticeView → Type 0 = λ ls. over.lattice < length (orders_of ls) in
-      let few = subst Within shows.lattices (slice_get_within (orders_of scene.lattices) over.lattice over.order over.there) in
-      are.before n lt scene shows over.lattice over.order (few_views lent.lattices.now over.lattice count few le) over.there over.exceeded;
+      let few =
+      subst Within shows.lattices (slice_get_within (orders_of scene.lattices) over.lattice over.order over.there) in
+      are.before n lt scene shows over.lattice over.order
+      (few_views lent.lattices.now over.lattice count few le) over.there over.exceeded;
 }
   where
     few_views : (ls : List LatticeView) (lattice count : ℕ) → lattice < length (orders_of ls) → length ls ≤ count
@@ -206,7 +211,8 @@ no_errors scene sys zero holds = NoConstraint
 no_errors scene sys (suc first) holds =
     let At : ℕ → Type 0 = λ n. Errors scene sys n [] in
     subst At (let e : first + 1 ≡ suc first = omega arith in e)
-    (NextError first [] [] (no_errors scene sys first (λ n lt. holds n (omega arith))) (NotExceeded (holds first (omega arith))))
+    (NextError first [] [] (no_errors scene sys first (λ n lt. holds n (omega arith)))
+    (NotExceeded (holds first (omega arith))))
 
 -- and none is counted
 pub none_before : (scene : Scene) (sys : System) (first : ℕ) → ((n : ℕ) → n < first → IsOver scene sys n → ⊥)

@@ -23,9 +23,7 @@ use Rattle.annotate.specs.Reports.{IsAtOnce, IsBottom, AtBottom, Above, VarListi
 use Rattle.annotate.specs.Reports.{IsAcceptedReport, IsRejectedReport, IsJudged, JudgedAccepted, JudgedRejected, IsJudgedWith}
 use Rattle.annotate.specs.Reports.{AcceptedWith, RejectedWith}
 use Rattle.lattice_core.specs.View.{LatticeView, orders_of}
-
-some_is : {A : Type 0} {x y : A} → Some x ≡ Some y → x ≡ y
-some_is e = cc
+use Rattle.flow_graph.proofs.Links.{some_constraint}
 
 -- a constraint that is a bound is found as one in its lattice
 pub bound_found : (link : Link) (lattice v e : ℕ) (B : Limit → Type 0) (found : Option Limit) → link ≡ Bound v lattice e
@@ -40,8 +38,10 @@ limit_given A B found limit is given = let Of : Option Limit → Type 0 = λ x. 
 -- an accepted report of what is listed, with what stands behind it
 pub accepted_with : (scene : Scene) (sys : System) (unit : Option ℕ) (listings : List Listing) (text : List ℕ) →
     IsAccepted sys (orders_of scene.lattices) →
-    ((lattice : ℕ) (order : Order) → slice_get (orders_of scene.lattices) lattice ≡ Some order → IsAtOnce sys lattice order) →
-    Listings scene.lattices sys scene.listed listings → text ≡ accepted_text scene listings ++ annotation scene unit listings →
+    ((lattice : ℕ) (order : Order) → slice_get (orders_of scene.lattices) lattice ≡ Some order
+    → IsAtOnce sys lattice order) →
+    Listings scene.lattices sys scene.listed listings
+    → text ≡ accepted_text scene listings ++ annotation scene unit listings →
     IsJudgedWith scene sys unit true text
 accepted_with scene sys unit listings text accepted at_once listed is =
     AcceptedWith text (accepted_text scene listings)
@@ -59,12 +59,14 @@ judged_alone scene sys accepted text (RejectedWith _ is) = JudgedRejected text i
 -- where some bound is exceeded, the program is not accepted
 pub over_is_refuted : (scene : Scene) (sys : System) (n : ℕ) → ExceededIsRefuted → IsOver scene sys n →
     IsAccepted sys (orders_of scene.lattices) → ⊥
-over_is_refuted scene sys n law over accepted = law sys over.lattice over.order n over.exceeded (accepted over.lattice over.order over.there)
+over_is_refuted scene sys n law over accepted =
+    law sys over.lattice over.order n over.exceeded (accepted over.lattice over.order over.there)
 
 -- the line `rejected`, and the errors of all exceeded bounds behind it, are the report of a program with one
 pub rejected_report : (scene : Scene) (sys : System) (text begun errors : List ℕ) → ExceededIsRefuted → (n : ℕ)
     → IsOver scene sys n →
-    begun ≡ line (codes "rejected") → text ≡ begun ++ errors → Errors scene sys (length sys.constraints) errors → IsRejectedReport scene sys text
+    begun ≡ line (codes "rejected") → text ≡ begun ++ errors → Errors scene sys (length sys.constraints) errors
+    → IsRejectedReport scene sys text
 rejected_report scene sys text begun errors law n over begins is listed = record {
   rejected = over_is_refuted scene sys n law over;
   errors = errors;
@@ -73,9 +75,11 @@ rejected_report scene sys text begun errors law n over begins is listed = record
 }
 
 -- what is listed from the least element of the solution of a lattice
-module _ (lattices : List LatticeView) (sys : System) (number : ℕ) (order : Order) (there : slice_get (orders_of lattices) number
+module _ (lattices : List LatticeView) (sys : System) (number : ℕ) (order : Order)
+    (there : slice_get (orders_of lattices) number
     ≡ Some order) (solution : Solution) (var elem bottom : ℕ)
-    (own : solution.lattice ≡ number) (kept : IsKept sys solution order) (lattice : IsLattice order) (is_bottom : IsBottom order bottom) (join : IsJoinOf order (reached_at solution var) elem) where
+    (own : solution.lattice ≡ number) (kept : IsKept sys solution order) (lattice : IsLattice order)
+    (is_bottom : IsBottom order bottom) (join : IsJoinOf order (reached_at solution var) elem) where
   printed : Printed sys number order var elem
   printed = let Is : ℕ → Type 0 = λ l. Printed sys l order var elem in subst Is own (kept.printed var elem join)
 
@@ -118,7 +122,8 @@ taken_more {A} xs n x within is =
     ap (λ (y : A). take n xs ++ y ∷ []) (sym is) ∙ sym (take-suc xs n x within) ∙ ap (λ k. take k xs) step
 
 -- what is listed with one variable more
-pub next_listed : (lattices : List LatticeView) (sys : System) (vars : List ℕ) (n var : ℕ) (before here : List Listing) →
+pub next_listed : (lattices : List LatticeView) (sys : System) (vars : List ℕ) (n var : ℕ)
+    (before here : List Listing) →
     n < length vars → get_or vars n var ≡ var → Listings lattices sys (take n vars) before →
     VarListings lattices sys var (length lattices) here → Listings lattices sys (take (n + 1) vars) (before ++ here)
 next_listed lattices sys vars n var before here within is first next =
@@ -128,14 +133,12 @@ next_listed lattices sys vars n var before here within is first next =
 bound_is : {v w l m a b : ℕ} → Bound v l a ≡ Bound w m b → (l ≡ m) × (a ≡ b)
 bound_is e = (cc, cc)
 
-constraint_is : {x y : Constraint} → Some x ≡ Some y → x ≡ y
-constraint_is e = cc
-
 -- the error of a bound that an element exceeds, with its path proof
-module _ (sys : System) (solution : Solution) (order : Order) (number : ℕ) (constraint : Constraint) (there : slice_get sys.constraints number ≡ Some constraint)
+module _ (sys : System) (solution : Solution) (order : Order) (number : ℕ) (constraint : Constraint)
+    (there : slice_get sys.constraints number ≡ Some constraint)
     (elem : ℕ) (exceeds : Exceeds sys solution order number elem) where
   same : exceeds.bound.constraint ≡ constraint
-  same = constraint_is (sym exceeds.bound.there ∙ there)
+  same = some_constraint (sym exceeds.bound.there ∙ there)
 
   pub link_is : constraint.link ≡ Bound exceeds.var solution.lattice exceeds.limit
   link_is = ap (λ (c : Constraint). c.link) (sym same) ∙ exceeds.bound.link_is
@@ -144,11 +147,13 @@ module _ (sys : System) (solution : Solution) (order : Order) (number : ℕ) (co
       → (solution.lattice ≡ lattice) × (exceeds.limit ≡ limit)
   limit_is v lattice limit is = bound_is (sym link_is ∙ is)
 
-module _ (scene : Scene) (sys : System) (solution : Solution) (order : Order) (number : ℕ) (proof : PathProof) (constraint : Constraint) (there : slice_get sys.constraints number ≡ Some constraint)
+module _ (scene : Scene) (sys : System) (solution : Solution) (order : Order) (number : ℕ) (proof : PathProof)
+    (constraint : Constraint) (there : slice_get sys.constraints number ≡ Some constraint)
     (elem : ℕ) (exceeds : Exceeds sys solution order number elem) where
   pub error_of : Holds sys (orders_of scene.lattices) proof → EndsWith number proof
       → AreApart sys (steps_of proof.subs.items) → (begins : BeginsOver sys solution order number proof) →
-      IsError scene sys number (error_line scene solution.lattice begins.element exceeds.limit constraint.span ++ proof_text scene sys (steps_of proof.subs.items) proof.main.items)
+      IsError scene sys number (error_line scene solution.lattice begins.element exceeds.limit constraint.span
+      ++ proof_text scene sys (steps_of proof.subs.items) proof.main.items)
   error_of holds ends apart begins = record {
     subs = steps_of proof.subs.items;
     main = proof.main.items;
@@ -166,7 +171,12 @@ module _ (scene : Scene) (sys : System) (solution : Solution) (order : Order) (n
     constant = begins.constant;
     limit = exceeds.limit;
     at = exceeds.var;
-    bound = record { constraint = constraint; there = there; link_is = link_is sys solution order number constraint there elem exceeds; carried = refl };
+    bound = record {
+      constraint = constraint;
+      there = there;
+      link_is = link_is sys solution order number constraint there elem exceeds;
+      carried = refl;
+    };
     spelled = refl;
   }
 
@@ -174,9 +184,11 @@ module _ (scene : Scene) (sys : System) (solution : Solution) (order : Order) (n
   pub error_as : Holds sys (orders_of scene.lattices) proof → EndsWith number proof
       → AreApart sys (steps_of proof.subs.items) → (begins : BeginsOver sys solution order number proof) →
       (lattice element limit : ℕ) → solution.lattice ≡ lattice → begins.element ≡ element → exceeds.limit ≡ limit →
-      IsError scene sys number (error_line scene lattice element limit constraint.span ++ proof_text scene sys (steps_of proof.subs.items) proof.main.items)
+      IsError scene sys number (error_line scene lattice element limit constraint.span
+      ++ proof_text scene sys (steps_of proof.subs.items) proof.main.items)
   error_as holds ends apart begins lattice element limit lattice_is element_is same_limit =
-      let text : ℕ → ℕ → ℕ → List ℕ = λ l e b. error_line scene l e b constraint.span ++ proof_text scene sys (steps_of proof.subs.items) proof.main.items in
+      let text : ℕ → ℕ → ℕ → List ℕ = λ l e b.
+      error_line scene l e b constraint.span ++ proof_text scene sys (steps_of proof.subs.items) proof.main.items in
       let In : ℕ → Type 0 = λ l. IsError scene sys number (text l element limit) in
       let Of : ℕ → Type 0 = λ e. IsError scene sys number (text solution.lattice e limit) in
       let By : ℕ → Type 0 = λ b. IsError scene sys number (text solution.lattice begins.element b) in
@@ -186,15 +198,18 @@ const_is : {v w l m a b : ℕ} → Const l a v ≡ Const m b w → a ≡ b
 const_is e = cc
 
 -- the constant that a path proof begins with, as it is read
-module _ (sys : System) (solution : Solution) (order : Order) (bound : ℕ) (proof : PathProof) (begins : BeginsOver sys solution order bound proof) (edge : ℕ) (edge_is : edge ≡ begins.number) where
+module _ (sys : System) (solution : Solution) (order : Order) (bound : ℕ) (proof : PathProof)
+    (begins : BeginsOver sys solution order bound proof) (edge : ℕ) (edge_is : edge ≡ begins.number) where
   pub edge_within : edge < length sys.constraints
   edge_within =
-      let within = slice_get_within sys.constraints begins.number begins.constant.constraint begins.constant.there in omega (arith, within, edge_is)
+      let within = slice_get_within sys.constraints begins.number begins.constant.constraint begins.constant.there in
+      omega (arith, within, edge_is)
 
   pub start_link : (start : Constraint) → slice_get sys.constraints edge ≡ Some start
       → start.link ≡ Const solution.lattice begins.element begins.var
   start_link start there =
-      ap (λ (c : Constraint). c.link) (constraint_is (sym there ∙ ap (slice_get sys.constraints) edge_is ∙ begins.constant.there)) ∙ begins.constant.link_is
+      ap (λ (c : Constraint). c.link) (some_constraint
+      (sym there ∙ ap (slice_get sys.constraints) edge_is ∙ begins.constant.there)) ∙ begins.constant.link_is
 
   pub element_is : (start : Constraint) → slice_get sys.constraints edge ≡ Some start → (lattice elem v : ℕ)
       → start.link ≡ Const lattice elem v → begins.element ≡ elem

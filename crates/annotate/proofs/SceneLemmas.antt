@@ -1,9 +1,7 @@
 -- What is found of a scene is what its texts name.
-use Rattle.std.proofs.Common.{◌≡◌, ℕ, zero, suc, ◌+◌, ◌<◌, ◌≤◌, nat_eq, inl, inr, Bool, true, false, if◌then◌else◌, List, [], ◌∷◌, ◌++◌, length, drop}
+use Rattle.std.proofs.Common.{◌≡◌, ℕ, zero, suc, ◌+◌, ◌<◌, ◌≤◌, nat_eq, Bool, true, false, if◌then◌else◌, List, [], ◌∷◌, ◌++◌, length, drop}
 use Rattle.std.proofs.Common.{Some, None, slice_get, refl, sym, ◌∙◌, ap, arith, get_or}
-use Rattle.std.proofs.Math.Dec.{eqb}
-use Rattle.std.proofs.lemmas.Bool.{eq-eqb, eqb-true}
-use Rattle.std.proofs.lemmas.Bool.Decides.{eqb_tells}
+use Rattle.std.proofs.lemmas.Bool.{eq-eqb, eqb-true, ne_eqb}
 use Rattle.std.proofs.lemmas.List.{drop_all}
 use Rattle.std.proofs.lemmas.Option.{slice_get_past}
 use Rattle.std.specs.declared.option.Option.{Option}
@@ -45,23 +43,23 @@ pub record There (A : Type 0) (xs : List A) (n : ℕ) : Type 0 where
 pub item_at : {A : Type 0} (xs : List A) (n : ℕ) → n < length xs → There A xs n
 item_at [] n h = absurd (omega (arith, h))
 item_at (x ∷ xs) zero h = record { item = x; there = refl }
-item_at (x ∷ xs) (suc n) h = let rest = item_at xs n (omega (arith, h)) in record { item = rest.item; there = rest.there }
+item_at (x ∷ xs) (suc n) h =
+    let rest = item_at xs n (omega (arith, h)) in
+    record { item = rest.item; there = rest.there }
 
 -- a token of a unit has its place
 pub place_there : (unit : UnitText) (token : ℕ) → token < length unit.lexed.tokens
     → place_in (Some unit) token ≡ spot_text unit.file unit.lexed.bytes (token_spot unit.lexed token)
 place_there unit token within = ap (place_at unit token) (item_at unit.lexed.tokens token within).there
 
--- the search for a unit, from a unit of the list on
-pub not_equal : (a b : ℕ) → (a ≡ b → ⊥) → eqb a b ≡ false
-not_equal a b other = elim (eqb_tells a b) [ inl same ↦ absurd (other same.1) | inr is ↦ is.0 ]
-
 -- where the unit at an index has the number, it is the first of that number from there on
 from_here : (units : List LentUnit) (n number : ℕ) (d : LentUnit) → n < length units
     → (get_or units n d).tokens.now.unit ≡ number
     → unit_in (units_of (drop n units)) number ≡ Some (unit_of (get_or units n d))
 from_here [] n number d within same = absurd (omega (arith, within))
-from_here (u ∷ us) zero number d within same = ap (λ (is : Bool). if is then Some (unit_of u) else unit_in (units_of us) number) (eq-eqb u.tokens.now.unit number same)
+from_here (u ∷ us) zero number d within same =
+    ap (λ (is : Bool). if is then Some (unit_of u) else unit_in (units_of us) number)
+    (eq-eqb u.tokens.now.unit number same)
 from_here (u ∷ us) (suc n) number d within same = from_here us n number d (omega (arith, within)) same
 
 -- where the unit at an index has another number, the first from there on is that from the next index on
@@ -69,13 +67,16 @@ past_here : (units : List LentUnit) (n number : ℕ) (d : LentUnit) → n < leng
     → ((get_or units n d).tokens.now.unit ≡ number → ⊥) →
     unit_in (units_of (drop n units)) number ≡ unit_in (units_of (drop (suc n) units)) number
 past_here [] n number d within other = absurd (omega (arith, within))
-past_here (u ∷ us) zero number d within other = ap (λ (is : Bool). if is then Some (unit_of u) else unit_in (units_of us) number) (not_equal u.tokens.now.unit number other)
+past_here (u ∷ us) zero number d within other =
+    ap (λ (is : Bool). if is then Some (unit_of u) else unit_in (units_of us) number)
+    (ne_eqb u.tokens.now.unit number other)
 past_here (u ∷ us) (suc n) number d within other = past_here us n number d (omega (arith, within)) other
 
 pub unit_here : (units : List LentUnit) (n number : ℕ) (u : LentUnit) → n < length units → u ≡ get_or units n u
     → u.tokens.now.unit ≡ number → unit_in (units_of (drop n units)) number ≡ Some (unit_of u)
 unit_here units n number u within is same =
-    from_here units n number u within (ap (λ (v : LentUnit). v.tokens.now.unit) (sym is) ∙ same) ∙ ap (λ (v : LentUnit). Some (unit_of v)) (sym is)
+    from_here units n number u within (ap (λ (v : LentUnit). v.tokens.now.unit) (sym is) ∙ same)
+    ∙ ap (λ (v : LentUnit). Some (unit_of v)) (sym is)
 
 -- a unit of another number is passed by in the search for one
 pub unit_past : (units : List LentUnit) (n number : ℕ) (u : LentUnit) → n < length units → u ≡ get_or units n u
@@ -83,7 +84,8 @@ pub unit_past : (units : List LentUnit) (n number : ℕ) (u : LentUnit) → n < 
     unit_in (units_of (drop n units)) number ≡ unit_in (units_of (drop (n + 1) units)) number
 unit_past units n number u within is other =
     let next : suc n ≡ n + 1 = omega arith in
-    past_here units n number u within (λ same. other (ap (λ (v : LentUnit). v.tokens.now.unit) is ∙ same)) ∙ ap (λ k. unit_in (units_of (drop k units)) number) next
+    past_here units n number u within (λ same. other (ap (λ (v : LentUnit). v.tokens.now.unit) is ∙ same))
+    ∙ ap (λ k. unit_in (units_of (drop k units)) number) next
 
 pub no_unit : (units : List LentUnit) (n number : ℕ) → length units ≤ n
     → unit_in (units_of (drop n units)) number ≡ None
@@ -94,8 +96,10 @@ has_one : (units : List LentUnit) (n : ℕ) (it : LentUnit) → n < length units
     → has_unit (units_of units) it.tokens.now.unit ≡ true
 has_one [] n it within is = absurd (omega (arith, within))
 has_one (u ∷ us) zero it within is =
-    ap (λ (b : Bool). if b then true else has_unit (units_of us) it.tokens.now.unit) (eq-eqb u.tokens.now.unit it.tokens.now.unit (ap (λ (v : LentUnit). v.tokens.now.unit) is))
-has_one (u ∷ us) (suc n) it within is = by_test (nat_eq u.tokens.now.unit it.tokens.now.unit) (has_one us n it (omega (arith, within)) is)
+    ap (λ (b : Bool). if b then true else has_unit (units_of us) it.tokens.now.unit)
+    (eq-eqb u.tokens.now.unit it.tokens.now.unit (ap (λ (v : LentUnit). v.tokens.now.unit) is))
+has_one (u ∷ us) (suc n) it within is =
+    by_test (nat_eq u.tokens.now.unit it.tokens.now.unit) (has_one us n it (omega (arith, within)) is)
   where
     by_test : (b : Bool) → has_unit (units_of us) it.tokens.now.unit ≡ true
         → (if b then true else has_unit (units_of us) it.tokens.now.unit) ≡ true
@@ -118,7 +122,8 @@ first_named (u ∷ us) (suc n) it number within is here apart =
     by_test true e behind =
         let same : u.tokens.now.unit ≡ number = eqb-true u.tokens.now.unit number e in
         let unit : it.tokens.now.unit ≡ u.tokens.now.unit = here ∙ sym same in
-        absurd (let no : true ≡ false = sym (has_one us n it (omega (arith, within)) is) ∙ ap (has_unit (units_of us)) unit ∙ apart.0 in cc)
+        absurd (let no : true ≡ false =
+        sym (has_one us n it (omega (arith, within)) is) ∙ ap (has_unit (units_of us)) unit ∙ apart.0 in cc)
     by_test false e behind = behind
 
 pub named_by_one : (units : List LentUnit) (it : LentUnit) (number : ℕ) → Contains units it

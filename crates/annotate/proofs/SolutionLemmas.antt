@@ -18,7 +18,8 @@ before_or_at : (xs : List Solved) (x : Solved) (n : ℕ) (y : Solved) → slice_
 before_or_at [] x zero y is = inr (refl, solution_is is)
 before_or_at [] x (suc n) y is = absurd cc
 before_or_at (z ∷ xs) x zero y is = inl is
-before_or_at (z ∷ xs) x (suc n) y is = elim (before_or_at xs x n y is) [ inl before ↦ inl before | inr last ↦ inr (ap suc last.0, last.1) ]
+before_or_at (z ∷ xs) x (suc n) y is =
+    elim (before_or_at xs x n y is) [ inl before ↦ inl before | inr last ↦ inr (ap suc last.0, last.1) ]
 
 -- the first so many lattices have their solutions
 pub record AreFirst (sys : System) (count : ℕ) (solutions : List Solved) : Type 0 where
@@ -32,9 +33,11 @@ none_first sys = record { count_is = refl; each = λ n solution is. absurd cc }
 pub next_first : (sys : System) (count : ℕ) (old new : List Solved) (x : Solved) → new ≡ old ++ x ∷ []
     → IsSolution sys count x → AreFirst sys count old → AreFirst sys (count + 1) new
 next_first sys count old new x more own first = record {
-  count_is = (let l = length-append old (x ∷ []) in let m : length new ≡ length (old ++ x ∷ []) = ap length more in let c = first.count_is in omega arith);
+  count_is = (let l = length-append old (x ∷ []) in let m : length new ≡ length (old ++ x ∷ []) = ap length more in
+      let c = first.count_is in omega arith);
   each = λ n solution is.
-      let there : slice_get (old ++ x ∷ []) n ≡ Some solution = sym (ap (λ (xs : List Solved). slice_get xs n) more) ∙ is in
+      let there : slice_get (old ++ x ∷ []) n ≡ Some solution =
+      sym (ap (λ (xs : List Solved). slice_get xs n) more) ∙ is in
       elim (before_or_at old x n solution there) [
         | inl before ↦ first.each n solution before
         | inr last ↦
@@ -46,16 +49,21 @@ next_first sys count old new x more own first = record {
 
 -- the first so many lattices keep their bounds
 abbrev pub KeptBelow : System → List LatticeView → List Solved → ℕ → Type 0
-KeptBelow sys lattices solutions count = (n : ℕ) (view : LatticeView) (solution : Solved) → n < count → slice_get lattices n ≡ Some view → slice_get solutions n ≡ Some solution → IsKept sys solution.solver view.order
+KeptBelow sys lattices solutions count =
+    (n : ℕ) (view : LatticeView) (solution : Solved) → n < count → slice_get lattices n ≡ Some view
+    → slice_get solutions n ≡ Some solution → IsKept sys solution.solver view.order
 
 view_is : {x y : LatticeView} → Some x ≡ Some y → x ≡ y
 view_is e = cc
 
 -- the solutions of the first lattices that are kept and that of the next one are kept together
-pub kept_next : (sys : System) (lattices : List LatticeView) (solutions : List Solved) (count : ℕ) (view : LatticeView) (solution : Solved)
+pub kept_next : (sys : System) (lattices : List LatticeView) (solutions : List Solved) (count : ℕ) (view : LatticeView)
+    (solution : Solved)
     → slice_get lattices count ≡ Some view →
-    slice_get solutions count ≡ Some solution → IsKept sys solution.solver view.order → KeptBelow sys lattices solutions count → KeptBelow sys lattices solutions (count + 1)
-kept_next sys lattices solutions count view solution there found own below n v s within v_there s_there = by_order (cases_order n count)
+    slice_get solutions count ≡ Some solution → IsKept sys solution.solver view.order
+    → KeptBelow sys lattices solutions count → KeptBelow sys lattices solutions (count + 1)
+kept_next sys lattices solutions count view solution there found own below n v s within v_there s_there =
+    by_order (cases_order n count)
   where
     by_order : (n ≡ count) ⊎ ((n < count) ⊎ (count < n)) → IsKept sys s.solver v.order
     by_order (inl same) =

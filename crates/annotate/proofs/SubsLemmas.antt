@@ -21,7 +21,8 @@ module _ (scene : Scene) (sys : System) where
       let here : k ≡ k + 0 = omega arith in append-nil (one_text k steps) ∙ ap (λ n. one_text n steps) here
   subs_more k (s ∷ subs) steps =
       let next : k + 1 + length subs ≡ k + length (s ∷ subs) = omega arith in
-      ap (λ t. one_text k s ++ t) (subs_more (k + 1) subs steps ∙ ap (λ n. subs_text scene sys (k + 1) subs ++ one_text n steps) next)
+      ap (λ t. one_text k s ++ t)
+      (subs_more (k + 1) subs steps ∙ ap (λ n. subs_text scene sys (k + 1) subs ++ one_text n steps) next)
       ∙ sym (append_assoc (one_text k s) (subs_text scene sys (k + 1) subs) (one_text (k + length (s ∷ subs)) steps))
 
   some_is : {x y : SubPath} → Some x ≡ Some y → x ≡ y
@@ -43,18 +44,20 @@ module _ (scene : Scene) (sys : System) where
   pub next_sub : (subs : List SubPath) (n : ℕ) (sub : SubPath) → slice_get subs n ≡ Some sub →
       (old before headed after : List ℕ) (number : ℕ) (steps : List PathStep) → number ≡ n + 1
       → steps ≡ sub.steps.items →
-      before ≡ old ++ subs_text scene sys 1 (steps_of (take n subs)) → headed ≡ before ++ line (codes "sub " ++ decimal number) → after ≡ headed ++ steps_text scene sys steps →
+      before ≡ old ++ subs_text scene sys 1 (steps_of (take n subs))
+      → headed ≡ before ++ line (codes "sub " ++ decimal number) → after ≡ headed ++ steps_text scene sys steps →
       after ≡ old ++ subs_text scene sys 1 (steps_of (take (n + 1) subs))
   next_sub subs n sub is old before headed after number steps number_is steps_are was head then =
       let taken : List (List PathStep) = steps_of (take n subs) in
       let at : number ≡ 1 + length taken = (let c = counted subs n sub is in omega (arith, c, number_is)) in
       let next : n + 1 ≡ suc n = omega arith in
-      then
-      ∙ ap (λ t. t ++ steps_text scene sys steps) (head ∙ ap (λ t. t ++ line (codes "sub " ++ decimal number)) was)
-      ∙ append_assoc (old ++ subs_text scene sys 1 taken) (line (codes "sub " ++ decimal number)) (steps_text scene sys steps)
-      ∙ append_assoc old (subs_text scene sys 1 taken) (one_text number steps)
-      ∙ ap (λ t. old ++ (subs_text scene sys 1 taken ++ t)) (ap (λ k. one_text k steps) at ∙ ap (one_text (1 + length taken)) steps_are)
-      ∙ ap (λ t. old ++ t) (sym (subs_more 1 taken sub.steps.items) ∙ ap (subs_text scene sys 1) (sym (ap (λ k. steps_of (take k subs)) next ∙ steps_next subs n sub is)))
+      then ∙ ap (λ t. t ++ steps_text scene sys steps) (head ∙ ap (λ t. t ++ line (codes "sub " ++ decimal number)) was)
+      ∙ append_assoc (old ++ subs_text scene sys 1 taken) (line (codes "sub " ++ decimal number))
+      (steps_text scene sys steps) ∙ append_assoc old (subs_text scene sys 1 taken) (one_text number steps)
+      ∙ ap (λ t. old ++ (subs_text scene sys 1 taken ++ t))
+      (ap (λ k. one_text k steps) at ∙ ap (one_text (1 + length taken)) steps_are)
+      ∙ ap (λ t. old ++ t) (sym (subs_more 1 taken sub.steps.items)
+      ∙ ap (subs_text scene sys 1) (sym (ap (λ k. steps_of (take k subs)) next ∙ steps_next subs n sub is)))
 
   -- one step more
   pub step_more : (steps : List PathStep) (n : ℕ) (step : PathStep) → n < length steps → step ≡ get_or steps n step
@@ -62,7 +65,8 @@ module _ (scene : Scene) (sys : System) where
   step_more steps n step within is =
       let next : n + 1 ≡ suc n = omega arith in
       ap (λ k. steps_text scene sys (take k steps)) next
-      ∙ ap (steps_text scene sys) (take-suc steps n step within ∙ ap (λ (s : PathStep). take n steps ++ s ∷ []) (sym is))
+      ∙ ap (steps_text scene sys)
+      (take-suc steps n step within ∙ ap (λ (s : PathStep). take n steps ++ s ∷ []) (sym is))
       ∙ flat_map-append (step_text scene sys) (take n steps) (step ∷ [])
       ∙ ap (λ (t : List ℕ). steps_text scene sys (take n steps) ++ t) (append-nil (step_text scene sys step))
 

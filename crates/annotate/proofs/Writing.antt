@@ -17,12 +17,15 @@ fixed lent old new text is = record { is = λ s shows. is }
 -- nothing
 pub nothing : (lent : Lent) (old : List ℕ) (text : Scene → List ℕ) → ((s : Scene) → Shows lent s → [] ≡ text s)
     → Writes lent old old text
-nothing lent old text none = record { is = λ s shows. sym (append-nil old) ∙ ap (λ (t : List ℕ). old ++ t) (none s shows) }
+nothing lent old text none =
+    record { is = λ s shows. sym (append-nil old) ∙ ap (λ (t : List ℕ). old ++ t) (none s shows) }
 
 -- a text and then another
 pub then_both : {lent : Lent} {a b c : List ℕ} {f g : Scene → List ℕ} → Writes lent a b f → Writes lent b c g
     → Writes lent a c (λ s. f s ++ g s)
-then_both {a = a} {f = f} {g = g} one two = record { is = λ s shows. two.is s shows ∙ ap (λ (t : List ℕ). t ++ g s) (one.is s shows) ∙ append_assoc a (f s) (g s) }
+then_both {a = a} {f = f} {g = g} one two = record {
+  is = λ s shows. two.is s shows ∙ ap (λ (t : List ℕ). t ++ g s) (one.is s shows) ∙ append_assoc a (f s) (g s);
+}
 
 -- the same text in other words
 pub same_text : {lent : Lent} {a b : List ℕ} {f : Scene → List ℕ} (g : Scene → List ℕ) → Writes lent a b f
@@ -32,7 +35,8 @@ same_text {a = a} g one same = record { is = λ s shows. one.is s shows ∙ ap (
 -- nothing, where that is of the kind
 pub none_of : (lent : Lent) (old : List ℕ) (Is : Scene → List ℕ → Type 0) → ((s : Scene) → Shows lent s → Is s [])
     → WritesSome lent old old Is
-none_of lent old Is none = record { part = λ s shows. record { text = []; added = sym (append-nil old); is = none s shows } }
+none_of lent old Is none =
+    record { part = λ s shows. record { text = []; added = sym (append-nil old); is = none s shows } }
 
 -- a text that is of the kind
 pub some_of : {lent : Lent} {a b : List ℕ} {f : Scene → List ℕ} (Is : Scene → List ℕ → Type 0) → Writes lent a b f
@@ -49,7 +53,8 @@ then_some {a = a} Both one two both = record {
       let second = two.part s shows in
       record {
         text = first.text ++ second.text;
-        added = second.added ∙ ap (λ (t : List ℕ). t ++ second.text) first.added ∙ append_assoc a first.text second.text;
+        added = second.added ∙ ap (λ (t : List ℕ). t ++ second.text) first.added
+            ∙ append_assoc a first.text second.text;
         is = both s shows first.text second.text first.is second.is;
       };
 }

@@ -48,8 +48,7 @@ abbrev pub behind : Lexed → ℕ → ℕ
 behind lexed token = start_of lexed.tokens token + length (text_of lexed token)
 
 -- What is left of a source from a place on, in pieces: the bytes up to the place behind each of so many tokens from a
--- number on, with
--- the items of the token, and then the rest.
+-- number on, with the items of the token, and then the rest.
 abbrev pub pieces_from : (ℕ → List (List ℕ)) → (ℕ → ℕ) → ℕ → List ℕ → ℕ → ℕ → List Piece
 pieces_from items ends at left token zero = record { bytes = left; items = [] } ∷ []
 pieces_from items ends at left token (suc more) =

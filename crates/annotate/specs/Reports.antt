@@ -39,8 +39,7 @@ pub data Listings (lattices : List LatticeView) (sys : System) : List ℕ → Li
       Listings lattices sys (vars ++ var ∷ []) (before ++ here)
 
 -- In each lattice one assignment meets the unfolding at every depth, and on all copies of all variables at once it is
--- at or
--- below the printed elements.
+-- at or below the printed elements.
 pub record IsAtOnce (sys : System) (lattice : ℕ) (order : Order) : Type 0 where
   pub copies : Assignment
   pub meets : (depth : ℕ) → Meets sys lattice order depth copies

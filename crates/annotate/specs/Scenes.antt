@@ -25,8 +25,7 @@ AreApart [] = Unit {0}
 AreApart (unit ∷ units) = (has_unit units unit.lexed.unit ≡ false) × AreApart units
 
 -- The texts' scene is what the code holds: no two of its units have one number, and its position of a variable is the
--- one where the
--- variable stands in the table.
+-- one where the variable stands in the table.
 pub record Shows (lent : Lent) (scene : Scene) : Type 0 where
   pub units : scene.units ≡ units_of lent.units.now
   pub apart : AreApart (units_of lent.units.now)

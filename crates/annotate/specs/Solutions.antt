@@ -18,7 +18,8 @@ use Rattle.annotate.specs.Scenes.{Shows}
 
 -- each constant and bound of a lattice of the list names an element of it
 abbrev pub AllNamed : List LatticeView → System → Type 0
-AllNamed lattices sys = (n : ℕ) (view : LatticeView) → slice_get lattices n ≡ Some view → NamesElementsIn sys n view.order
+AllNamed lattices sys =
+    (n : ℕ) (view : LatticeView) → slice_get lattices n ≡ Some view → NamesElementsIn sys n view.order
 
 -- the matched paths and the solution of the lattice with a number
 pub record IsSolution (sys : System) (lattice : ℕ) (of : Solved) : Type 0 where
@@ -34,11 +35,14 @@ pub record AreSolutions (sys : System) (lattices : List LatticeView) (solutions 
 
 -- each lattice keeps its bounds
 abbrev pub AreKept : System → List LatticeView → List Solved → Type 0
-AreKept sys lattices solutions = (n : ℕ) (view : LatticeView) (solution : Solved) → slice_get lattices n ≡ Some view → slice_get solutions n ≡ Some solution →
+AreKept sys lattices solutions =
+    (n : ℕ) (view : LatticeView) (solution : Solved) → slice_get lattices n ≡ Some view
+    → slice_get solutions n ≡ Some solution →
     IsKept sys solution.solver view.order
 
 -- what is listed of a variable in the lattice with a number
-pub record IsListedIn (lattices : List LatticeView) (sys : System) (lattice var : ℕ) (here : List Listing) : Type 0 where
+pub record IsListedIn (lattices : List LatticeView) (sys : System) (lattice var : ℕ)
+    (here : List Listing) : Type 0 where
   pub order : Order
   pub there : slice_get (orders_of lattices) lattice ≡ Some order
   pub is : IsListed sys lattice order var here

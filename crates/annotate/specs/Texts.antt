@@ -31,8 +31,7 @@ pub record UnitText : Type 0 where
   pub lexed : Lexed
 
 -- What the texts name: the units, the lattices, where each variable stands, and the variables of the declared names in
--- the
--- order of the accepted report.
+-- the order of the accepted report.
 pub record Scene : Type 0 where
   pub units : List UnitText
   pub lattices : List LatticeView
@@ -46,7 +45,8 @@ unit_in (unit ∷ units) number = if nat_eq unit.lexed.unit number then Some uni
 
 -- the file that a spot names: that of its linemarker, or the source's own where the linemarker names none
 abbrev pub file_text : List ℕ → List ℕ → Spot → List ℕ
-file_text file bytes spot = if nat_eq spot.name_from spot.name_to then file else slice_range bytes spot.name_from spot.name_to
+file_text file bytes spot =
+    if nat_eq spot.name_from spot.name_to then file else slice_range bytes spot.name_from spot.name_to
 
 -- FILE:LINE:COLUMN
 abbrev pub at_text : List ℕ → ℕ → ℕ → List ℕ
@@ -110,15 +110,19 @@ elem_text scene lattice elem = name_in (slice_get scene.lattices lattice) elem
 
 -- what a constraint says, behind its number and place
 abbrev pub link_text : Scene → Link → List ℕ
-link_text scene (Const lattice elem var) = codes "const " ++ elem_text scene lattice elem ++ codes " in " ++ var_text scene var
+link_text scene (Const lattice elem var) =
+    codes "const " ++ elem_text scene lattice elem ++ codes " in " ++ var_text scene var
 link_text scene (Le from to) = codes "flow " ++ var_text scene from ++ codes " to " ++ var_text scene to
 link_text scene (Enter site from to) = codes "enter " ++ var_text scene from ++ codes " to " ++ var_text scene to
 link_text scene (Leave site from to) = codes "leave " ++ var_text scene from ++ codes " to " ++ var_text scene to
-link_text scene (Bound var lattice elem) = codes "bound " ++ var_text scene var ++ codes " by " ++ elem_text scene lattice elem
+link_text scene (Bound var lattice elem) =
+    codes "bound " ++ var_text scene var ++ codes " by " ++ elem_text scene lattice elem
 
 -- the line of a constraint in a path, where there is one of this number
 abbrev pub constraint_text : Scene → ℕ → Option Constraint → List ℕ
-constraint_text scene number (Some c) = line (codes "  " ++ decimal number ++ codes " " ++ place_text scene c.span.unit c.span.from ++ codes " " ++ link_text scene c.link)
+constraint_text scene number (Some c) =
+    line (codes "  " ++ decimal number ++ codes " " ++ place_text scene c.span.unit c.span.from ++ codes " "
+    ++ link_text scene c.link)
 constraint_text scene number None = []
 
 -- the line of a step
@@ -133,7 +137,8 @@ steps_text scene sys steps = flat_map (step_text scene sys) steps
 -- sub-paths count from 1; here from the number of the first one
 abbrev pub subs_text : Scene → System → ℕ → List (List PathStep) → List ℕ
 subs_text scene sys number [] = []
-subs_text scene sys number (steps ∷ subs) = line (codes "sub " ++ decimal number) ++ steps_text scene sys steps ++ subs_text scene sys (number + 1) subs
+subs_text scene sys number (steps ∷ subs) =
+    line (codes "sub " ++ decimal number) ++ steps_text scene sys steps ++ subs_text scene sys (number + 1) subs
 
 -- the lines of a path proof: its sub-paths, and then its main path
 abbrev pub proof_text : Scene → System → List (List PathStep) → List PathStep → List ℕ
@@ -146,7 +151,8 @@ taken None = []
 
 -- The lines of a walk, with the constraint before its first step and the one behind its last, where there are such.
 abbrev pub walk_text : Scene → System → Option ℕ → Option ℕ → Walk → List ℕ
-walk_text scene sys begin bound walk = proof_text scene sys (steps_of walk.subs.items) (taken begin ++ walk.steps.items ++ taken bound)
+walk_text scene sys begin bound walk =
+    proof_text scene sys (steps_of walk.subs.items) (taken begin ++ walk.steps.items ++ taken bound)
 
 -- the line of a variable with its element in a lattice
 abbrev pub value_line : Scene → ℕ → ℕ → ℕ → List ℕ
@@ -167,4 +173,5 @@ accepted_text scene listings = line (codes "accepted") ++ listing_lines scene li
 -- the line of a bound that is exceeded by an element of its lattice
 abbrev pub error_line : Scene → ℕ → ℕ → ℕ → Span → List ℕ
 error_line scene lattice elem bound span =
-    line (codes "error " ++ elem_text scene lattice elem ++ codes " exceeds " ++ elem_text scene lattice bound ++ codes " at " ++ place_text scene span.unit span.from)
+    line (codes "error " ++ elem_text scene lattice elem ++ codes " exceeds " ++ elem_text scene lattice bound
+    ++ codes " at " ++ place_text scene span.unit span.from)

@@ -17,7 +17,8 @@ use Rattle.answer_laws.specs.Laws.{AnnotatedGivesTheSource, IsAnnotated, judged}
 use Rattle.answer_laws.proofs.Asking.{annotated_names_one}
 
 -- the source is found among the texts by its number
-unit_is : (named : FileNames) (inputs : Inputs) (lattices : List LatticeView) (before : List UnitRead) (marks : List IndexMark) (it : UnitRead)
+unit_is : (named : FileNames) (inputs : Inputs) (lattices : List LatticeView) (before : List UnitRead)
+    (marks : List IndexMark) (it : UnitRead)
     → AreBefore named inputs lattices before marks → it.lexed.unit ≡ 1
     → unit_in (texts_of named (lexed_of (before ++ it ∷ []))) 1 ≡ Some (text_of named it.lexed)
 unit_is named inputs lattices before marks it (NoPrelude none) one =
@@ -34,10 +35,12 @@ one_file [] contents one = absurd cc
 one_file (file ∷ []) contents one = (file, refl)
 one_file (file ∷ other ∷ more) contents one = absurd cc
 
-one_unit : (wide : Bool) (lattices : List LatticeView) (number left : ℕ) (source : List ℕ × List ℕ) (units : List UnitRead)
+one_unit : (wide : Bool) (lattices : List LatticeView) (number left : ℕ) (source : List ℕ × List ℕ)
+    (units : List UnitRead)
     → SourcesParse wide lattices number left (source ∷ []) units
     → (unit : UnitRead) × (units ≡ unit ∷ []) × SourceParses wide lattices number source.1 unit
-one_unit wide lattices _ _ _ _ (OneSource number left source _ unit _ within parses (NoSource _ _)) = (unit, refl, parses)
+one_unit wide lattices _ _ _ _ (OneSource number left source _ unit _ within parses (NoSource _ _)) =
+    (unit, refl, parses)
 
 -- where one source is named, what is read of the sources is one unit, of the bytes of that source
 the_unit : (named : FileNames) (inputs : Inputs) (it : ProgramIsRead named inputs) → length named.sources ≡ 1
@@ -45,7 +48,8 @@ the_unit : (named : FileNames) (inputs : Inputs) (it : ProgramIsRead named input
 the_unit named inputs it one =
     let file = one_file named.sources inputs.sources one in
     one_unit named.wide it.lattices 1 total_limit (file.0, first_of inputs.sources) it.units
-    (subst (λ (files : List (List ℕ × List ℕ)). SourcesParse named.wide it.lattices 1 total_limit files it.units) file.1 it.parse)
+    (subst (λ (files : List (List ℕ × List ℕ)). SourcesParse named.wide it.lattices 1 total_limit files it.units)
+    file.1 it.parse)
 
 -- the text of an accepted program that was judged with unit 1 is its report with the annotated source
 of_text : CommentsComeOut → (named : FileNames) (inputs : Inputs) (it : ProgramIsRead named inputs) (text : List ℕ)
@@ -54,7 +58,8 @@ of_text : CommentsComeOut → (named : FileNames) (inputs : Inputs) (it : Progra
     → IsAnnotated named inputs text
 of_text law named inputs it text one is = by is
   where
-    source : (unit : UnitRead) × (it.units ≡ unit ∷ []) × SourceParses named.wide it.lattices 1 (first_of inputs.sources) unit
+    source : (unit : UnitRead) × (it.units ≡ unit ∷ [])
+        × SourceParses named.wide it.lattices 1 (first_of inputs.sources) unit
     source = the_unit named inputs it one
 
     found : unit_in (judged named inputs it).scene.units 1 ≡ Some (text_of named source.0.lexed)
@@ -70,7 +75,8 @@ of_text law named inputs it text one is = by is
       one = source.1;
       report = report;
       is = is;
-      spelled = subst (λ (o : Option UnitText). text ≡ report ++ (line (codes "annotated") ++ annotated_in (judged named inputs it).scene o is.listings)) found spelled;
+      spelled = subst (λ (o : Option UnitText). text ≡ report
+          ++ (line (codes "annotated") ++ annotated_in (judged named inputs it).scene o is.listings)) found spelled;
       source = law (judged named inputs it).scene source.0.lexed is.listings ∙ source.2.lexes.bytes_are;
     }
 
@@ -92,17 +98,26 @@ of_end : CommentsComeOut → (named : FileNames) (inputs : Inputs) (it : Program
     → IsAnnotated named inputs text
 of_end law named inputs it text annotated one (SavedJudged file _ _ there few is) =
     absurd (subst (λ (q : Question). IsOfSaved q (judged named inputs it) inputs.saved Accepted text) annotated is)
-of_end law named inputs it text annotated one (AnsweredAlone _ _ none is) = of_alone law named inputs it text named.asked annotated one is
+of_end law named inputs it text annotated one (AnsweredAlone _ _ none is) =
+    of_alone law named inputs it text named.asked annotated one is
 
 -- what is accepted behind lattices that were read is the report with the annotated source
 of_units : CommentsComeOut → (named : FileNames) (inputs : Inputs) (lattices : List LatticeView)
     → LatticesRead named.wide inputs.lattice lattices
     → (text : List ℕ) → named.asked ≡ Annotate → length named.sources ≡ 1 → OfUnits named inputs lattices Accepted text
     → IsAnnotated named inputs text
-of_units law named inputs lattices read text annotated one (PreludeRead before marks _ _ are (SourcesRead units _ _ parse counted end)) =
-    of_end law named inputs
-    (record { lattices = lattices; read = read; before = before; marks = marks; are = are; units = units; parse = parse; counted = counted })
-    text annotated one end
+of_units law named inputs lattices read text annotated one
+    (PreludeRead before marks _ _ are (SourcesRead units _ _ parse counted end)) =
+    of_end law named inputs (record {
+      lattices = lattices;
+      read = read;
+      before = before;
+      marks = marks;
+      are = are;
+      units = units;
+      parse = parse;
+      counted = counted;
+    }) text annotated one end
 
 of_files_read : CommentsComeOut → (named : FileNames) (inputs : Inputs) (text : List ℕ) → named.asked ≡ Annotate
     → length named.sources ≡ 1 → OfFiles named inputs Accepted text → IsAnnotated named inputs text
@@ -125,7 +140,8 @@ annotated_gives_the_source law words names inputs text means (WithMeaning task _
 
     by : task ≡ Ask Annotate names → OfTask inputs task Accepted text
         → IsAnnotated (of_files names Annotate) inputs text
-    by same (OfGenerated number _ _ made _) = absurd (let no : Generate number ≡ Ask Annotate names = sym made ∙ same in cc)
+    by same (OfGenerated number _ _ made _) =
+        absurd (let no : Generate number ≡ Ask Annotate names = sym made ∙ same in cc)
     by same (OfProgram named _ _ is_named files) =
         let e : named ≡ of_files names Annotate = some_names (sym is_named ∙ ap names_of same) in
         subst (λ (n : FileNames). IsAnnotated n inputs text) e

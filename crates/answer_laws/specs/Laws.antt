@@ -45,7 +45,8 @@ pub record IsAnnotated (named : FileNames) (inputs : Inputs) (text : List ℕ) :
 -- An accepted text with the annotated source is that.
 abbrev pub AnnotatedGivesTheSource : Type 0
 AnnotatedGivesTheSource = (words : List (List ℕ)) (names : Names) (inputs : Inputs) (text : List ℕ) →
-    meaning_of words ≡ Some (Ask Annotate names) → Outcome words inputs Accepted text → IsAnnotated (of_files names Annotate) inputs text
+    meaning_of words ≡ Some (Ask Annotate names) → Outcome words inputs Accepted text
+    → IsAnnotated (of_files names Annotate) inputs text
 
 -- No line feed is in the names of files that lines of a report give: those of the units, and those of linemarkers.
 abbrev pub FilesAreFree : Scene → Type 0
@@ -53,20 +54,22 @@ FilesAreFree scene = (k : ℕ) (unit : UnitText) (token : ℕ) → slice_get sce
     HasNoFeed (file_text unit.file unit.lexed.bytes (token_spot unit.lexed token))
 
 -- A rejected text, whatever was asked, as the report that is checked over the same lattices, prelude and sources,
--- holds: where the
--- names of files have no line feed in them, and the text is not past the limit of saved files.
+-- holds: where the names of files have no line feed in them, and the text is not past the limit of saved files.
 abbrev pub RejectedIsChecked : Type 0
-RejectedIsChecked = (words others : List (List ℕ)) (question : Question) (names : Names) (report : List ℕ) (inputs : Inputs) (text : List ℕ) →
+RejectedIsChecked =
+    (words others : List (List ℕ)) (question : Question) (names : Names) (report : List ℕ) (inputs : Inputs)
+    (text : List ℕ) →
     meaning_of words ≡ Some (Ask question names) → meaning_of others ≡ Some (Ask (Check report) names) →
-    ((it : ProgramIsRead (of_files names question) inputs) → FilesAreFree (judged (of_files names question) inputs it).scene) →
+    ((it : ProgramIsRead (of_files names question) inputs)
+    → FilesAreFree (judged (of_files names question) inputs it).scene) →
     length text ≤ saved_limit → Outcome words inputs Rejected text →
     Outcome others (record inputs { saved = text }) PathsHold (checked_text Hold)
 
 -- The certificate that is written of an accepted program, as the one that is checked over the same lattices, prelude
--- and sources, holds,
--- where it is not past the limit of saved files.
+-- and sources, holds, where it is not past the limit of saved files.
 abbrev pub CertifiedIsVerified : Type 0
-CertifiedIsVerified = (words others : List (List ℕ)) (names : Names) (certificate : List ℕ) (inputs : Inputs) (text : List ℕ) →
+CertifiedIsVerified =
+    (words others : List (List ℕ)) (names : Names) (certificate : List ℕ) (inputs : Inputs) (text : List ℕ) →
     meaning_of words ≡ Some (Ask Certify names) → meaning_of others ≡ Some (Ask (Verify certificate) names) →
     length text ≤ saved_limit → Outcome words inputs Accepted text →
     Outcome others (record inputs { saved = text }) CertificateHolds (verdict_text Holds)

@@ -5,15 +5,16 @@ use Rattle.std.specs.List.{Contains}
 use Rattle.std.proofs.lemmas.Bool.{cases_eq}
 use Rattle.std.proofs.lemmas.List.{length-append}
 use Rattle.std.proofs.lemmas.List.Elements.{Contains-append_left, Contains-push}
+use Rattle.lattice_core.proofs.Bits.{or_left, or_right, or_either}
 use Rattle.flow_graph.specs.System.{System, AllBelow}
 use Rattle.bounds_below.specs.declared.flows.Flows.{Flows}
 use Rattle.bounds_below.specs.declared.work.Work.{Work}
 use Rattle.bounds_below.specs.Below.{set_at, Reaches}
 use Rattle.bounds_below.specs.Carrying.{AllReach, AreOfSystem, AreSound, Gains, Has, Includes, IsTaken, left_in, room}
-use Rattle.bounds_below.proofs.Bits.{from_left, from_right, in_union}
 
 pub gains_same : (w : Work) → Gains w w
-gains_same w = record { size = refl; left = omega arith; kept = λ v b has. has; waits = λ v waits. waits; still = λ v. inr refl }
+gains_same w =
+    record { size = refl; left = omega arith; kept = λ v b has. has; waits = λ v waits. waits; still = λ v. inr refl }
 
 -- sets that gain and gain again have gained in all
 pub gains_then : (a b c : Work) → Gains a b → Gains b c → Gains a c
@@ -35,15 +36,17 @@ pub below_same : (sys : System) (old new : ℕ) → new ≡ old → AllBelow sys
 below_same sys old new same below = subst (λ k. AllBelow sys k) (sym same) below
 
 -- the set of a variable was raised
-module _ (old new : List ℕ) (at elems : ℕ) (here : set_at new at ≡ bit_or (set_at old at) elems) (others : (v : ℕ) → v ≢ at → set_at new v ≡ set_at old v) where
+module _ (old new : List ℕ) (at elems : ℕ) (here : set_at new at ≡ bit_or (set_at old at) elems)
+    (others : (v : ℕ) → v ≢ at → set_at new v ≡ set_at old v) where
   pub raised_has : Includes elems new at
-  raised_has b has = subst (λ (x : ℕ). bit_at x b ≡ 1) (sym here) (from_right (set_at old at) elems b has)
+  raised_has b has = subst (λ (x : ℕ). bit_at x b ≡ 1) (sym here) (or_right (set_at old at) elems b has)
 
   pub raised_kept : (v b : ℕ) → Has old v b → Has new v b
   raised_kept v b has = elim (cases_eq v at) [
     | inl same ↦
         let before : bit_at (set_at old at) b ≡ 1 = subst (λ (x : ℕ). Has old x b) same has in
-        subst (λ (x : ℕ). Has new x b) (sym same) (subst (λ (x : ℕ). bit_at x b ≡ 1) (sym here) (from_left (set_at old at) elems b before))
+        subst (λ (x : ℕ). Has new x b) (sym same)
+        (subst (λ (x : ℕ). bit_at x b ≡ 1) (sym here) (or_left (set_at old at) elems b before))
     | inr apart ↦ subst (λ (x : ℕ). bit_at x b ≡ 1) (sym (others v apart)) has
   ]
 
@@ -51,8 +54,9 @@ module _ (old new : List ℕ) (at elems : ℕ) (here : set_at new at ≡ bit_or 
       → AreSound sys lattice new
   raised_sound sys lattice more sound v b has = elim (cases_eq v at) [
     | inl same ↦
-        let both : bit_at (bit_or (set_at old at) elems) b ≡ 1 = subst (λ (x : ℕ). bit_at x b ≡ 1) here (subst (λ (x : ℕ). Has new x b) same has) in
-        elim (in_union (set_at old at) elems b both) [
+        let both : bit_at (bit_or (set_at old at) elems) b ≡ 1 =
+        subst (λ (x : ℕ). bit_at x b ≡ 1) here (subst (λ (x : ℕ). Has new x b) same has) in
+        elim (or_either (set_at old at) elems b both) [
           | inl before ↦ sound v b (subst (λ (x : ℕ). Has old x b) (sym same) before)
           | inr gained ↦ subst (λ (x : ℕ). Reaches sys lattice x b) (sym same) (more b gained)
         ]
@@ -62,19 +66,23 @@ module _ (old new : List ℕ) (at elems : ℕ) (here : set_at new at ≡ bit_or 
 -- and the variable waits
 pub gained : (old new : Work) (at elems : ℕ) → room new.sets.items < room old.sets.items
     → length new.sets.items ≡ length old.sets.items →
-    set_at new.sets.items at ≡ bit_or (set_at old.sets.items at) elems → ((v : ℕ) → v ≢ at → set_at new.sets.items v ≡ set_at old.sets.items v) →
+    set_at new.sets.items at ≡ bit_or (set_at old.sets.items at) elems
+    → ((v : ℕ) → v ≢ at → set_at new.sets.items v ≡ set_at old.sets.items v) →
     new.waiting.items ≡ old.waiting.items ++ at ∷ [] → Gains old new
 gained old new at elems less size here others pushed = record {
   size = size;
   left =
-      let longer : length new.waiting.items ≡ length old.waiting.items + 1 = ap length pushed ∙ length-append old.waiting.items (at ∷ []) in
+      let longer : length new.waiting.items ≡ length old.waiting.items + 1 =
+      ap length pushed ∙ length-append old.waiting.items (at ∷ []) in
       omega (arith, less, longer);
   kept = raised_kept old.sets.items new.sets.items at elems here others;
-  waits = λ v waits. subst (λ (xs : List ℕ). Contains xs v) (sym pushed) (Contains-append_left old.waiting.items (at ∷ []) v waits);
+  waits = λ v waits.
+      subst (λ (xs : List ℕ). Contains xs v) (sym pushed) (Contains-append_left old.waiting.items (at ∷ []) v waits);
   still = λ v. elim (cases_eq v at) [
     | inl same ↦
         let last : Contains (old.waiting.items ++ at ∷ []) at = Contains-push old.waiting.items at in
-        inl (subst (λ (x : ℕ). Contains new.waiting.items x) (sym same) (subst (λ (xs : List ℕ). Contains xs at) (sym pushed) last))
+        inl (subst (λ (x : ℕ). Contains new.waiting.items x) (sym same)
+        (subst (λ (xs : List ℕ). Contains xs at) (sym pushed) last))
     | inr apart ↦ inr (others v apart)
   ];
 }
@@ -83,6 +91,7 @@ gained old new at elems less size here others pushed = record {
 pub taken_less : (old new : Work) (at : ℕ) → IsTaken old new at → new.sets.items ≡ old.sets.items
     → left_in new < left_in old
 taken_less old new at taken sets =
-    let longer : length old.waiting.items ≡ length new.waiting.items + 1 = ap length taken ∙ length-append new.waiting.items (at ∷ []) in
+    let longer : length old.waiting.items ≡ length new.waiting.items + 1 =
+    ap length taken ∙ length-append new.waiting.items (at ∷ []) in
     let same = ap room sets in
     omega (arith, longer, same)

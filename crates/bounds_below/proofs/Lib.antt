@@ -1,4 +1,3 @@
-mod Bits
 mod Carried
 mod Gaining
 mod Groups

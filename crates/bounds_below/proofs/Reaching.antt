@@ -11,7 +11,8 @@ module _ (sys : System) (lattice : ℕ) where
   down_then u v x first (here _) = first
   down_then u v x first (along _ y _ n d st) = along u y x n (down_then u v y first d) st
   down_then u v x first (into _ y _ s n d st) = into u y x s n (down_then u v y first d) st
-  down_then u v x first (round _ y a b _ s g n m d st p st2) = round u y a b x s g n m (down_then u v y first d) st p st2
+  down_then u v x first (round _ y a b _ s g n m d st p st2) =
+      round u y a b x s g n m (down_then u v y first d) st p st2
 
   reach_from : (u v b : ℕ) → Down sys lattice u v → Reaches sys lattice v b → Reaches sys lattice u b
   reach_from u v b first r = (r.0, (r.1.0, down_then u v r.1.0 first r.1.1, r.1.2))

@@ -8,4 +8,5 @@ pub room-set : (sets : List ℕ) (i y : ℕ) → i < length sets → get_or sets
 room-set [] i y within more fits = absurd (omega (arith, within))
 room-set (x ∷ xs) zero y within more fits = omega (arith, more, fits)
 room-set (x ∷ xs) (suc i) y within more fits =
-    let deeper : room (set xs i y) < room xs = room-set xs i y (omega (arith, within)) more fits in omega (arith, deeper)
+    let deeper : room (set xs i y) < room xs = room-set xs i y (omega (arith, within)) more fits in
+    omega (arith, deeper)

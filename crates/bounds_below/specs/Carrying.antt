@@ -66,7 +66,8 @@ module _ (sys : System) (lattice : ℕ) (rows : List Summary) where
   -- the group of constraint m, as an Enter of a site, and of a Leave of the site from a variable brings a set back to
   -- its beginning
   abbrev pub IsPassed : ℕ → List ℕ → ℕ → ℕ → ℕ → Type 0
-  IsPassed had sets site b m = (u a : ℕ) → Stands sys lattice m (Enter site u a) → Leads rows a b → AreOfOne sys a b → Includes had sets u
+  IsPassed had sets site b m =
+      (u a : ℕ) → Stands sys lattice m (Enter site u a) → Leads rows a b → AreOfOne sys a b → Includes had sets u
 
   -- constraint n brings what a variable had back to where it begins, and round the groups that end with it
   pub record IsCarried (had : ℕ) (sets : List ℕ) (v n : ℕ) : Type 0 where

@@ -16,6 +16,7 @@ all_pass p (c ∷ cs) = by_test (p c) refl (all_pass p cs)
     by_test true is rest = rw (one-add, is) rest
     by_test false is rest = refl
 
+-- a front longer than the bytes that pass a test has one that does not
 more_fail : (p : ℕ → Bool) (bytes : List ℕ) (m : ℕ) → prefix_len p bytes < m → m ≤ length bytes
     → list_all p (take m bytes) ≡ false
 more_fail p [] m lt le = absurd (omega arith)
@@ -41,6 +42,7 @@ longest_run first p test form c cs h = record {
     longer zero lt le = absurd (omega arith)
     longer (suc m) lt le = rw (form c (take m cs), h) (more_fail p cs m (omega arith) (omega arith))
 
+-- the bytes of words in front, from a letter on, are the longest word
 pub word_longest : (bytes : List ℕ) → begins_with is_letter bytes ≡ true
     → IsLongestOf is_word bytes (prefix_len is_word_byte bytes)
 word_longest [] h = absurd cc
@@ -56,6 +58,7 @@ dollar_longest (c ∷ cs) h = longest_run (λ c. c == 36) is_word_byte is_dollar
 digit_apart : (c : ℕ) → is_digit c ≡ true → (c == 46) ≡ false
 digit_apart c h = grind (arith, nat_tests)
 
+-- bytes that begin with a digit are a number just if they are a digit and what goes on with it
 digits_alike : (c : ℕ) (cs : List ℕ) → is_digit c ≡ true → is_number (c ∷ cs) ≡ is_digits (c ∷ cs)
 digits_alike c cs h = rw (digit_apart c h, h) (by_tail (is_number_tail c cs))
   where
@@ -64,29 +67,40 @@ digits_alike c cs h = rw (digit_apart c h, h) (by_tail (is_number_tail c cs))
     by_tail false = refl
 
 point_alike : (c : ℕ) (cs : List ℕ) → (c == 46) ≡ true → is_number (c ∷ cs) ≡ is_digits cs
-point_alike c cs h = rw (h, let no_digit : is_digit c ≡ false = (let e : c ≡ 46 = eqb-true c 46 h in rw e refl) in no_digit) refl
+point_alike c cs h =
+    rw (h, let no_digit : is_digit c ≡ false = (let e : c ≡ 46 = eqb-true c 46 h in rw e refl) in no_digit) refl
 
+-- the longest run from a digit on is the longest number
 pub digits-number : (bytes : List ℕ) (n : ℕ) → begins_with is_digit bytes ≡ true → IsLongestOf is_digits bytes n
     → IsLongestOf is_number bytes n
 digits-number [] n h long = absurd cc
-digits-number (c ∷ cs) n h long = record { inside = long.inside; passes = at n ∙ long.passes; longest = λ m lt le. at m ∙ long.longest m lt le }
+digits-number (c ∷ cs) n h long =
+    record { inside = long.inside; passes = at n ∙ long.passes; longest = λ m lt le. at m ∙ long.longest m lt le }
   where
     at : (m : ℕ) → is_number (take m (c ∷ cs)) ≡ is_digits (take m (c ∷ cs))
     at zero = refl
     at (suc m) = digits_alike c (take m cs) h
 
+-- `.` and the longest run from a digit on are the longest number
 pub fraction-number : (bytes : List ℕ) (n : ℕ)
     → (begins_with (λ c. c == 46) bytes && begins_with is_digit (drop 1 bytes)) ≡ true
     → IsLongestOf is_digits (drop 1 bytes) n → IsLongestOf is_number bytes (1 + n)
 fraction-number [] n h long = absurd cc
 fraction-number (c ∷ cs) n h long =
     let parts = and_parts (c == 46) (begins_with is_digit cs) h in
-    record { inside = (let i = long.inside in omega arith); passes = rw (one-add) (point_alike c (take n cs) parts.0 ∙ long.passes); longest = longer }
+    record {
+      inside = (let i = long.inside in omega arith);
+      passes = rw (one-add) (point_alike c (take n cs) parts.0 ∙ long.passes);
+      longest = longer;
+    }
   where
     longer : (m : ℕ) → 1 + n < m → m ≤ length (c ∷ cs) → is_number (take m (c ∷ cs)) ≡ false
     longer zero lt le = absurd (omega arith)
-    longer (suc m) lt le = point_alike c (take m cs) (and_parts (c == 46) (begins_with is_digit cs) h).0 ∙ long.longest m (omega arith) (omega arith)
+    longer (suc m) lt le =
+        point_alike c (take m cs) (and_parts (c == 46) (begins_with is_digit cs) h).0
+        ∙ long.longest m (omega arith) (omega arith)
 
+-- bytes that begin with neither a digit nor `.` and a digit have no number in front
 pub no-number : (bytes : List ℕ) → begins_with is_digit bytes ≡ false
     → (begins_with (λ c. c == 46) bytes && begins_with is_digit (drop 1 bytes)) ≡ false → HasNone is_number bytes
 no-number [] h k zero le = refl

@@ -24,7 +24,8 @@ run_len test bytes from to run stops =
     let len : prefix_len test (drop from bytes) ≡ to - from =
     prefix_len_is test (drop from bytes) (to - from) 0 (omega arith)
     (λ k lt. ap test (get_or-drop from bytes k 0) ∙ run.passes (from + k) (omega arith) (omega arith))
-    (λ lt. ap test (get_or-drop from bytes (to - from) 0 ∙ ap (λ i. get_or bytes i 0) (let e : from + (to - from) ≡ to = omega arith in e)) ∙ stops) in
+    (λ lt. ap test (get_or-drop from bytes (to - from) 0
+    ∙ ap (λ i. get_or bytes i 0) (let e : from + (to - from) ≡ to = omega arith in e)) ∙ stops) in
     omega (arith, len)
 
 -- all that passes is a run, where it is not empty
@@ -32,9 +33,11 @@ pub len-run : (test : ℕ → Bool) (bytes : List ℕ) (from to : ℕ) → to �
     → from < to → IsRun test bytes from to
 len-run test bytes from to is rises = record {
   rises = rises;
-  inside = (let most = prefix_len-le-length test (drop from bytes) in let size = length-drop from bytes in omega (arith, is));
+  inside = (let most = prefix_len-le-length test (drop from bytes) in let size = length-drop from bytes in
+      omega (arith, is));
   passes = λ k lo lt.
-      ap test (sym (get_or-drop from bytes (k - from) 0 ∙ ap (λ i. get_or bytes i 0) (let e : from + (k - from) ≡ k = omega arith in e)))
+      ap test (sym (get_or-drop from bytes (k - from) 0
+      ∙ ap (λ i. get_or bytes i 0) (let e : from + (k - from) ≡ k = omega arith in e)))
       ∙ prefix_len_passes test (drop from bytes) (k - from) 0 (omega (arith, is));
 }
 
@@ -53,7 +56,8 @@ quote_stands bytes at m h = by_list (drop at bytes) m refl h
     by_list rest zero e h = absurd cc
     by_list [] (suc m) e h = absurd cc
     by_list (c ∷ cs) (suc m) e h =
-        ap (λ i. get_or bytes i 0) (let f : at ≡ at + 0 = omega arith in f) ∙ sym (get_or-drop at bytes 0 0) ∙ ap (λ l. get_or l 0 0) e ∙ eqb-true c 34 (and_parts (c == 34) _ h).0
+        ap (λ i. get_or bytes i 0) (let f : at ≡ at + 0 = omega arith in f) ∙ sym (get_or-drop at bytes 0 0)
+        ∙ ap (λ l. get_or l 0 0) e ∙ eqb-true c 34 (and_parts (c == 34) _ h).0
 
 -- the parts of a linemarker stand where they are read
 pub record IsReadAt (line : List ℕ) (parts : Parts) : Type 0 where
@@ -66,25 +70,32 @@ pub record SameParts (line : List ℕ) (m : Marker) (parts : Parts) (marks : IsM
   pub digits_end : marks.digits_end ≡ parts.digits_end
   pub quote_at : marks.quote_at ≡ parts.quote_at
 
+-- the parts of a linemarker stand where they are read in its line
 pub same_parts : (line : List ℕ) (parts : Parts) → IsReadAt line parts → (m : Marker) (marks : IsMarker line m)
     → SameParts line m parts marks
 same_parts line parts read m marks =
     let digits = marks.digits in
     let blanks = marks.second_blanks in
     let first : marks.digits_at ≡ parts.digits_at =
-    run_len is_blank line 1 marks.digits_at marks.first_blanks (digit_blank (get_or line marks.digits_at 0) (digits.passes marks.digits_at (omega arith) digits.rises)) ∙ sym read.digits_at in
+    run_len is_blank line 1 marks.digits_at marks.first_blanks (digit_blank (get_or line marks.digits_at 0)
+    (digits.passes marks.digits_at (omega arith) digits.rises)) ∙ sym read.digits_at in
     let second : marks.digits_end ≡ parts.digits_end =
-    run_len is_digit line marks.digits_at marks.digits_end digits (blank_digit (get_or line marks.digits_end 0) (blanks.passes marks.digits_end (omega arith) blanks.rises))
+    run_len is_digit line marks.digits_at marks.digits_end digits
+    (blank_digit (get_or line marks.digits_end 0) (blanks.passes marks.digits_end (omega arith) blanks.rises))
     ∙ ap (λ at. at + prefix_len is_digit (drop at line)) first ∙ sym read.digits_end in
-    let stands : get_or line marks.quote_at 0 ≡ 34 = quote_stands line marks.quote_at (m.name_to + 1 - marks.quote_at) marks.file in
+    let stands : get_or line marks.quote_at 0 ≡ 34 =
+    quote_stands line marks.quote_at (m.name_to + 1 - marks.quote_at) marks.file in
     let third : marks.quote_at ≡ parts.quote_at =
     run_len is_blank line marks.digits_end marks.quote_at blanks (rw stands refl)
     ∙ ap (λ at. at + prefix_len is_blank (drop at line)) second ∙ sym read.quote_at in
     record { digits_at = first; digits_end = second; quote_at = third }
 
 abbrev pub long_enough : Parts → Bool
-long_enough parts = nat_lt 1 parts.digits_at && (nat_lt parts.digits_at parts.digits_end && (nat_le parts.digits_end (parts.digits_at + 9) && nat_lt parts.digits_end parts.quote_at))
+long_enough parts =
+    nat_lt 1 parts.digits_at && (nat_lt parts.digits_at parts.digits_end
+    && (nat_le parts.digits_end (parts.digits_at + 9) && nat_lt parts.digits_end parts.quote_at))
 
+-- a line whose parts are too short or too long is no linemarker
 pub short-no_marker : (line : List ℕ) (parts : Parts) → IsReadAt line parts → long_enough parts ≡ false → (m : Marker)
     → ¬ IsMarker line m
 short-no_marker line parts read short m marks =
@@ -97,12 +108,15 @@ short-no_marker line parts read short m marks =
     let b = same.digits_end in
     let d = same.quote_at in
     both_ways (long_enough parts) short
-    (and_from _ _ (lt-ltb 1 parts.digits_at (omega arith)) (and_from _ _ (lt-ltb parts.digits_at parts.digits_end (omega arith))
-    (and_from _ _ (le-leb parts.digits_end (parts.digits_at + 9) (omega arith)) (lt-ltb parts.digits_end parts.quote_at (omega arith)))))
+    (and_from _ _ (lt-ltb 1 parts.digits_at (omega arith))
+    (and_from _ _ (lt-ltb parts.digits_at parts.digits_end (omega arith))
+    (and_from _ _ (le-leb parts.digits_end (parts.digits_at + 9) (omega arith))
+    (lt-ltb parts.digits_end parts.quote_at (omega arith)))))
 
 -- the length of the quoted name, from where the parts place it
 pub file_len : (line : List ℕ) (parts : Parts) → IsReadAt line parts → (m : Marker) (marks : IsMarker line m) →
-    (n : ℕ) × (n ≤ length (drop parts.quote_at line)) × (is_quoted 34 (take n (drop parts.quote_at line)) ≡ true) × (m.name_to + 1 ≡ parts.quote_at + n)
+    (n : ℕ) × (n ≤ length (drop parts.quote_at line)) × (is_quoted 34 (take n (drop parts.quote_at line)) ≡ true)
+    × (m.name_to + 1 ≡ parts.quote_at + n)
 file_len line parts read m marks =
     let same = same_parts line parts read m marks in
     let n = m.name_to + 1 - parts.quote_at in
@@ -115,6 +129,7 @@ file_len line parts read m marks =
     by_order zero e file = absurd cc
     by_order (suc n) e file = omega (arith, e)
 
+-- a line without a quoted name where it should be is no linemarker
 pub no-name : (line : List ℕ) (parts : Parts) → IsReadAt line parts → HasNone (is_quoted 34) (drop parts.quote_at line)
     → (m : Marker) → ¬ IsMarker line m
 no-name line parts read none m marks =
@@ -131,6 +146,7 @@ same_len bytes n k long only le h = by_order (cases_order k n)
     by_order (inr (inl lt)) = absurd (both_ways _ (only k lt) h)
     by_order (inr (inr gt)) = absurd (both_ways _ (long.longest k gt le) h)
 
+-- a line with anything but flags behind its name is no linemarker
 pub no-flags : (line : List ℕ) (parts : Parts) → IsReadAt line parts → (n : ℕ)
     → IsLongestOf (is_quoted 34) (drop parts.quote_at line) n
     → NoneShorter (is_quoted 34) (drop parts.quote_at line) n →
@@ -141,15 +157,19 @@ no-flags line parts read n long only stops m marks =
     let end : m.name_to + 1 ≡ parts.quote_at + n = file.3 ∙ ap (λ k. parts.quote_at + k) same in
     both_ways _ stops (rw end at marks.flags)
 
+-- what is read as the digits of a line are digits
 pub digits-all : (line : List ℕ) (parts : Parts) → IsReadAt line parts
     → list_all is_digit (take (parts.digits_end - parts.digits_at) (drop parts.digits_at line)) ≡ true
 digits-all line parts read =
-    let len : parts.digits_end - parts.digits_at ≡ prefix_len is_digit (drop parts.digits_at line) = (let e = read.digits_end in omega arith) in
+    let len : parts.digits_end - parts.digits_at ≡ prefix_len is_digit (drop parts.digits_at line) =
+    (let e = read.digits_end in omega arith) in
     rw len (all_pass is_digit (drop parts.digits_at line))
 
+-- a line with `#`, digits, a quoted name and flags is a linemarker, with its number and its name's place
 pub found-marker : (line : List ℕ) (parts : Parts) → IsReadAt line parts → begins_with (λ c. c == 35) line ≡ true
     → long_enough parts ≡ true → (n number : ℕ) → IsLongestOf (is_quoted 34) (drop parts.quote_at line) n →
-    are_flags false (drop (parts.quote_at + n) line) ≡ true → number ≡ decimal (slice_range line parts.digits_at parts.digits_end) →
+    are_flags false (drop (parts.quote_at + n) line) ≡ true
+    → number ≡ decimal (slice_range line parts.digits_at parts.digits_end) →
     IsMarker line (record { number = number; name_from = parts.quote_at + 1; name_to = parts.quote_at + n - 1 })
 found-marker line parts read hash long zero number file flags is = absurd (let h = file.passes in cc)
 found-marker line parts read hash long (suc n) number file flags is =
@@ -163,9 +183,11 @@ found-marker line parts read hash long (suc n) number file flags is =
       quote_at = parts.quote_at;
       hash = hash;
       first_blanks = len-run is_blank line 1 parts.digits_at read.digits_at (ltb-true 1 parts.digits_at one.0);
-      digits = len-run is_digit line parts.digits_at parts.digits_end read.digits_end (ltb-true parts.digits_at parts.digits_end two.0);
+      digits = len-run is_digit line parts.digits_at parts.digits_end read.digits_end
+          (ltb-true parts.digits_at parts.digits_end two.0);
       few = leb-true parts.digits_end (parts.digits_at + 9) three.0;
-      second_blanks = len-run is_blank line parts.digits_end parts.quote_at read.quote_at (ltb-true parts.digits_end parts.quote_at three.1);
+      second_blanks = len-run is_blank line parts.digits_end parts.quote_at read.quote_at
+          (ltb-true parts.digits_end parts.quote_at three.1);
       name_from = refl;
       inside = (let i = file.inside in let size = length-drop parts.quote_at line in omega arith);
       file = rw (end, let e : parts.quote_at + suc n - parts.quote_at ≡ suc n = omega arith in e) file.passes;

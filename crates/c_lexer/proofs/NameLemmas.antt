@@ -35,9 +35,12 @@ new-number names name none = ap (λ o. unwrap_or o (length names)) none
 -- a key that is new goes behind, as its name does
 pub new-names : (keys after : List (Vec ℕ Global)) (k : Vec ℕ Global) (names : List (List ℕ)) (name : List ℕ)
     → spellings keys ≡ names →
-    after ≡ insert_key (λ a b. bytes_eq a.items b.items) keys k → k.items ≡ name → list_any (λ x. bytes_eq name x.items) keys ≡ false → position (bytes_eq name) names ≡ None →
+    after ≡ insert_key (λ a b. bytes_eq a.items b.items) keys k → k.items ≡ name
+    → list_any (λ x. bytes_eq name x.items) keys ≡ false → position (bytes_eq name) names ≡ None →
     spellings after ≡ with_name names name
 new-names keys after k names name same put items apart none =
-    let behind : after ≡ keys ++ k ∷ [] = put ∙ ap (λ b. if b then keys else keys ++ k ∷ []) (ap (λ n. list_any (λ x. bytes_eq n x.items) keys) items ∙ apart) in
-    ap spellings behind ∙ map-append (λ (v : Vec ℕ Global). v.items) keys (k ∷ []) ∙ ap (λ ns. ns ++ k.items ∷ []) same ∙ ap (λ n. names ++ n ∷ []) items
+    let behind : after ≡ keys ++ k ∷ [] = put
+    ∙ ap (λ b. if b then keys else keys ++ k ∷ []) (ap (λ n. list_any (λ x. bytes_eq n x.items) keys) items ∙ apart) in
+    ap spellings behind ∙ map-append (λ (v : Vec ℕ Global). v.items) keys (k ∷ []) ∙ ap (λ ns. ns ++ k.items ∷ []) same
+    ∙ ap (λ n. names ++ n ∷ []) items
     ∙ sym (ap (λ o. if is_some o then names else names ++ name ∷ []) none)

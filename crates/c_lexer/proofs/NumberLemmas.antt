@@ -7,6 +7,7 @@ use Rattle.std.proofs.lemmas.List.Sums.{fails_before_first}
 use Rattle.std.proofs.lemmas.Option.{slice_get_read, slice_get_within, get_or_from_slice_get, slice_get-map}
 use Rattle.std.proofs.lemmas.Grind.{common_steps}
 use Rattle.std.proofs.lemmas.Slice.Eq.{bytes_eq-Decides}
+use Rattle.qual_base.proofs.Lists.{push_left, push_last}
 use Rattle.c_words.specs.declared.kinds.TokenKind.{TokenKind}
 use Rattle.c_words.specs.declared.kinds.TokenKind.TheVariants.{Name, Keyword, Number, Char, Text, Punct, Qual, Index, End}
 use Rattle.c_lexer.specs.declared.token.Token.{Token}
@@ -18,20 +19,13 @@ use Rattle.c_lexer.specs.Numbering.{kind_of, AreNumbered}
 
 -- a name token is spelled as the name of its number
 abbrev pub AreKnown : List ℕ → List Token → List (List ℕ) → Type 0
-AreKnown bytes tokens names = (k : ℕ) (t : Token) (id : ℕ) → slice_get tokens k ≡ Some t → t.kind ≡ Name id → slice_get names id ≡ Some (slice_range bytes t.start t.end)
+AreKnown bytes tokens names =
+    (k : ℕ) (t : Token) (id : ℕ) → slice_get tokens k ≡ Some t → t.kind ≡ Name id
+    → slice_get names id ≡ Some (slice_range bytes t.start t.end)
 
 -- no name has two numbers
 abbrev pub AreApart : List (List ℕ) → Type 0
 AreApart names = (i j : ℕ) (name : List ℕ) → slice_get names i ≡ Some name → slice_get names j ≡ Some name → i ≡ j
-
-older : {A : Type 0} (xs : List A) (y x : A) (k : ℕ) → slice_get xs k ≡ Some x → slice_get (xs ++ y ∷ []) k ≡ Some x
-older [] y x k e = absurd cc
-older (z ∷ xs) y x zero e = e
-older (z ∷ xs) y x (suc k) e = older xs y x k e
-
-newest : {A : Type 0} (xs : List A) (y : A) → slice_get (xs ++ y ∷ []) (length xs) ≡ Some y
-newest [] y = refl
-newest (z ∷ xs) y = newest xs y
 
 -- an element of a list with one more is one of the list, or the one more behind it
 pushed : {A : Type 0} (xs : List A) (y x : A) (k : ℕ) → slice_get (xs ++ y ∷ []) k ≡ Some x
@@ -60,8 +54,10 @@ missing_is names name k none there =
     let within = slice_get_within names k name there in
     let same : get_or names k name ≡ name = get_or_from_slice_get names k name name there in
     let long : length names ≤ position_or_len (bytes_eq name) names = grind (arith, common_steps) in
-    let fails : bytes_eq name (get_or names k name) ≡ false = fails_before_first (bytes_eq name) names k name (omega arith) in
-    let passes : bytes_eq name (get_or names k name) ≡ true = (bytes_eq-Decides name (get_or names k name)).1 (sym same) in
+    let fails : bytes_eq name (get_or names k name) ≡ false =
+    fails_before_first (bytes_eq name) names k name (omega arith) in
+    let passes : bytes_eq name (get_or names k name) ≡ true =
+    (bytes_eq-Decides name (get_or names k name)).1 (sym same) in
     absurd (let e : true ≡ false = sym passes ∙ fails in cc)
 
 -- what is known of the names behind a name's token
@@ -70,6 +66,7 @@ record NameKept (names after : List (List ℕ)) (name : List ℕ) (id : ℕ) : T
   stay : (k : ℕ) (n : List ℕ) → slice_get names k ≡ Some n → slice_get after k ≡ Some n
   apart : AreApart after
 
+-- behind a name's token its number has it, the names before stay, and no two are the same
 name_kept : (names : List (List ℕ)) (name : List ℕ) → AreApart names
     → NameKept names (with_name names name) name (name_number names name)
 name_kept names name apart = by_place (position (bytes_eq name) names) refl
@@ -87,7 +84,8 @@ name_kept names name apart = by_place (position (bytes_eq name) names) refl
     by_place : (o : Option ℕ) → position (bytes_eq name) names ≡ o
         → NameKept names (if is_some o then names else names ++ name ∷ []) name (unwrap_or o (length names))
     by_place (Some i) at = record { there = found_is names name i at; stay = λ k n e. e; apart = apart }
-    by_place None none = record { there = newest names name; stay = λ k n e. older names name n k e; apart = push_apart none }
+    by_place None none =
+        record { there = push_last names name; stay = λ k n e. push_left names name n k e; apart = push_apart none }
 
 -- what is known of a front
 record IsNumbered (bytes : List ℕ) (front : Front) : Type 0 where
@@ -105,53 +103,74 @@ known_more bytes tokens t names after known stay new k s id there is = by_case (
     by_case : (slice_get tokens k ≡ Some s) ⊎ ((k ≡ length tokens) × (t ≡ s))
         → slice_get after id ≡ Some (slice_range bytes s.start s.end)
     by_case (inl old) = stay id (slice_range bytes s.start s.end) (known k s id old is)
-    by_case (inr last) = let P : Token → Type 0 = λ s. s.kind ≡ Name id → slice_get after id ≡ Some (slice_range bytes s.start s.end) in subst P last.1 (new id) is
+    by_case (inr last) =
+        let P : Token → Type 0 = λ s. s.kind ≡ Name id → slice_get after id ≡ Some (slice_range bytes s.start s.end) in
+        subst P last.1 (new id) is
 
 -- a token that is no name leaves the names
 other_more : (bytes : List ℕ) (tokens : List Token) (t : Token) (names : List (List ℕ)) → AreKnown bytes tokens names
     → AreApart names → ((id : ℕ) → t.kind ≡ Name id → ⊥) →
     AreKnown bytes (tokens ++ t ∷ []) names × AreApart names
-other_more bytes tokens t names known apart other = (known_more bytes tokens t names names known (λ k n e. e) (λ id e. absurd (other id e)), apart)
+other_more bytes tokens t names known apart other =
+    (known_more bytes tokens t names names known (λ k n e. e) (λ id e. absurd (other id e)), apart)
 
-behind_token : (unit : ℕ) (wide : Bool) (words : Meanings) (bytes : List ℕ) (tokens : List Token) (names : List (List ℕ)) (at n : ℕ) (kind : TokenKind)
+-- behind any token the names are known by their numbers, and no two are the same
+behind_token : (unit : ℕ) (wide : Bool) (words : Meanings) (bytes : List ℕ) (tokens : List Token)
+    (names : List (List ℕ)) (at n : ℕ) (kind : TokenKind)
     → AreKnown bytes tokens names → AreApart names →
     IsKind unit wide words names (take n (drop at bytes)) kind →
-    AreKnown bytes (tokens ++ record { kind = kind; start = at; end = at + n } ∷ []) (names_behind names (take n (drop at bytes)) kind) × AreApart (names_behind names (take n (drop at bytes)) kind)
+    AreKnown bytes (tokens ++ record { kind = kind; start = at; end = at + n } ∷ [])
+    (names_behind names (take n (drop at bytes)) kind) × AreApart (names_behind names (take n (drop at bytes)) kind)
 behind_token unit wide words bytes tokens names at n (Name id) known apart is =
     let kept = name_kept names (take n (drop at bytes)) apart in
     let size : at + n - at ≡ n = omega arith in (
-      known_more bytes tokens (record { kind = Name id; start = at; end = at + n }) names (with_name names (take n (drop at bytes))) known kept.stay (λ i e.
+      known_more bytes tokens (record { kind = Name id; start = at; end = at + n }) names
+          (with_name names (take n (drop at bytes))) known kept.stay (λ i e.
           let same : i ≡ name_number names (take n (drop at bytes)) = (let h : id ≡ i = cc in sym h ∙ is.2) in
           rw (same, size) kept.there),
       kept.apart,
     )
-behind_token unit wide words bytes tokens names at n (Keyword word) known apart is = other_more bytes tokens (record { kind = Keyword word; start = at; end = at + n }) names known apart (λ id e. absurd cc)
-behind_token unit wide words bytes tokens names at n Number known apart is = other_more bytes tokens (record { kind = Number; start = at; end = at + n }) names known apart (λ id e. absurd cc)
-behind_token unit wide words bytes tokens names at n Char known apart is = other_more bytes tokens (record { kind = Char; start = at; end = at + n }) names known apart (λ id e. absurd cc)
-behind_token unit wide words bytes tokens names at n Text known apart is = other_more bytes tokens (record { kind = Text; start = at; end = at + n }) names known apart (λ id e. absurd cc)
-behind_token unit wide words bytes tokens names at n (Punct sign) known apart is = other_more bytes tokens (record { kind = Punct sign; start = at; end = at + n }) names known apart (λ id e. absurd cc)
-behind_token unit wide words bytes tokens names at n (Qual l e) known apart is = other_more bytes tokens (record { kind = Qual l e; start = at; end = at + n }) names known apart (λ id h. absurd cc)
-behind_token unit wide words bytes tokens names at n Index known apart is = other_more bytes tokens (record { kind = Index; start = at; end = at + n }) names known apart (λ id e. absurd cc)
+behind_token unit wide words bytes tokens names at n (Keyword word) known apart is =
+    other_more bytes tokens (record { kind = Keyword word; start = at; end = at + n }) names known apart
+    (λ id e. absurd cc)
+behind_token unit wide words bytes tokens names at n Number known apart is =
+    other_more bytes tokens (record { kind = Number; start = at; end = at + n }) names known apart (λ id e. absurd cc)
+behind_token unit wide words bytes tokens names at n Char known apart is =
+    other_more bytes tokens (record { kind = Char; start = at; end = at + n }) names known apart (λ id e. absurd cc)
+behind_token unit wide words bytes tokens names at n Text known apart is =
+    other_more bytes tokens (record { kind = Text; start = at; end = at + n }) names known apart (λ id e. absurd cc)
+behind_token unit wide words bytes tokens names at n (Punct sign) known apart is =
+    other_more bytes tokens (record { kind = Punct sign; start = at; end = at + n }) names known apart
+    (λ id e. absurd cc)
+behind_token unit wide words bytes tokens names at n (Qual l e) known apart is =
+    other_more bytes tokens (record { kind = Qual l e; start = at; end = at + n }) names known apart (λ id h. absurd cc)
+behind_token unit wide words bytes tokens names at n Index known apart is =
+    other_more bytes tokens (record { kind = Index; start = at; end = at + n }) names known apart (λ id e. absurd cc)
 behind_token unit wide words bytes tokens names at n End known apart is = absurd is
 
+-- at each place that is reached the names are known by their numbers, and no two are the same
 reaches_numbered : (unit : ℕ) (wide : Bool) (words : Meanings) (bytes : List ℕ) (front : Front)
     → Reaches unit wide words bytes front → IsNumbered bytes front
-reaches_numbered unit wide words bytes front begins = record { known = λ k t id there is. absurd cc; apart = λ i j n a b. absurd cc }
+reaches_numbered unit wide words bytes front begins =
+    record { known = λ k t id there is. absurd cc; apart = λ i j n a b. absurd cc }
 reaches_numbered unit wide words bytes front (skips old new reached s) =
     let before = reaches_numbered unit wide words bytes old reached in
     record { known = rw (s.tokens, s.names) before.known; apart = rw s.names before.apart }
 reaches_numbered unit wide words bytes front (takes old new reached t) =
     let before = reaches_numbered unit wide words bytes old reached in
-    let behind = behind_token unit wide words bytes old.tokens old.names old.at t.n t.kind before.known before.apart t.is_kind in
+    let behind =
+    behind_token unit wide words bytes old.tokens old.names old.at t.n t.kind before.known before.apart t.is_kind in
     record { known = rw (t.tokens, t.names) behind.0; apart = rw t.names behind.1 }
 
 -- with the end of the unit behind them
-spells_known : (unit : ℕ) (wide : Bool) (words : Meanings) (bytes : List ℕ) (tokens : List Token) (names : List (List ℕ)) (marks : List _)
+spells_known : (unit : ℕ) (wide : Bool) (words : Meanings) (bytes : List ℕ) (tokens : List Token)
+    (names : List (List ℕ)) (marks : List _)
     → Spells unit wide words bytes tokens names marks →
     AreKnown bytes tokens names × AreApart names
 spells_known unit wide words bytes tokens names marks s =
     let before = reaches_numbered unit wide words bytes s.front s.reached in
-    let behind = other_more bytes s.front.tokens (record { kind = End; start = length bytes; end = length bytes }) s.front.names before.known before.apart (λ id e. absurd cc) in
+    let behind = other_more bytes s.front.tokens (record { kind = End; start = length bytes; end = length bytes })
+    s.front.names before.known before.apart (λ id e. absurd cc) in
     (rw (s.tokens_are, s.names_are) behind.0, rw s.names_are behind.1)
 
 -- a name's token stands among the tokens, and its text is the spelling of its number
@@ -163,16 +182,20 @@ name_text lexed names n a known is = by_token (slice_get lexed.tokens n) refl is
         → slice_get names a ≡ Some (text_of lexed n)
     by_token None at e = absurd cc
     by_token (Some t) at e =
-        let first : start_of lexed.tokens n ≡ t.start = ap (λ o. unwrap_or o 0) (slice_get-map (λ (t : Token). t.start) lexed.tokens n ∙ ap (option_map (λ (t : Token). t.start)) at) in
-        let last : end_of lexed.tokens n ≡ t.end = ap (λ o. unwrap_or o 0) (slice_get-map (λ (t : Token). t.end) lexed.tokens n ∙ ap (option_map (λ (t : Token). t.end)) at) in
+        let first : start_of lexed.tokens n ≡ t.start = ap (λ o. unwrap_or o 0)
+        (slice_get-map (λ (t : Token). t.start) lexed.tokens n ∙ ap (option_map (λ (t : Token). t.start)) at) in
+        let last : end_of lexed.tokens n ≡ t.end = ap (λ o. unwrap_or o 0)
+        (slice_get-map (λ (t : Token). t.end) lexed.tokens n ∙ ap (option_map (λ (t : Token). t.end)) at) in
         let kind : t.kind ≡ Name a = cc in
         rw (first, last) (known n t a at kind)
 
+-- names of a spelled unit have one number just if the same bytes spell them
 pub spelled-numbered : (words : Meanings) (lexed : Lexed) → IsSpelled words lexed → AreNumbered lexed
 spelled-numbered words lexed spelled one other a b are =
     let k = spells_known lexed.unit lexed.wide words lexed.bytes lexed.tokens spelled.0 lexed.marks spelled.1 in
     let first = name_text lexed spelled.0 one a k.0 are.one_is in
     let second = name_text lexed spelled.0 other b k.0 are.other_is in (
-      λ same. (let h : Some (text_of lexed one) ≡ Some (text_of lexed other) = sym first ∙ ap (slice_get spelled.0) same ∙ second in let e : text_of lexed one ≡ text_of lexed other = cc in e),
+      λ same. (let h : Some (text_of lexed one) ≡ Some (text_of lexed other) = sym first ∙ ap (slice_get spelled.0) same
+          ∙ second in let e : text_of lexed one ≡ text_of lexed other = cc in e),
       λ same. k.1 a b (text_of lexed one) first (second ∙ ap Some (sym same)),
     )

@@ -3,6 +3,7 @@ use Rattle.std.proofs.Common.{◌≡◌, ℕ, zero, suc, ◌+◌, ◌-◌, ◌<�
 use Rattle.std.proofs.lemmas.Bool.{and_parts, or_cases, eqb-true, cases_lt}
 use Rattle.std.proofs.lemmas.List.{length-drop}
 use Rattle.std.proofs.Common.{Option, Some, None, MatchOption}
+use Rattle.qual_base.proofs.Tests.{or_false}
 use Rattle.c_lexer.specs.Spelling.{is_wide, is_quoted, is_quoted_tail, is_char, is_text, begins_with, IsLongestOf, NoneShorter, HasNone}
 
 -- a test of the whole front is another test of the front behind the first k bytes, and fewer bytes fail
@@ -11,6 +12,7 @@ pub record IsShifted (test inner : List ℕ → Bool) (bytes : List ℕ) (k : �
   pub behind : (m : ℕ) → k ≤ m → test (take m bytes) ≡ inner (take (m - k) (drop k bytes))
   pub before : (m : ℕ) → m < k → test (take m bytes) ≡ false
 
+-- the longest front of what stands behind a prefix makes, with the prefix, the longest of all
 pub shifted-long : {test inner : List ℕ → Bool} {bytes : List ℕ} {k : ℕ} → IsShifted test inner bytes k → (n : ℕ)
     → IsLongestOf inner (drop k bytes) n → IsLongestOf test bytes (k + n)
 shifted-long {test} {inner} {bytes} {k} s n long =
@@ -21,6 +23,7 @@ shifted-long {test} {inner} {bytes} {k} s n long =
       longest = λ m lt le. s.behind m (omega arith) ∙ long.longest (m - k) (omega arith) (omega arith);
     }
 
+-- where no front passes behind a prefix, none passes with it
 pub shifted-none : {test inner : List ℕ → Bool} {bytes : List ℕ} {k : ℕ} → IsShifted test inner bytes k
     → HasNone inner (drop k bytes) → HasNone test bytes
 shifted-none {test} {inner} {bytes} {k} s none m le = by_order (cases_lt m k)
@@ -29,6 +32,7 @@ shifted-none {test} {inner} {bytes} {k} s none m le = by_order (cases_lt m k)
     by_order (inl lt) = s.before m lt
     by_order (inr ge) = s.behind m ge ∙ none (m - k) (let size = length-drop k bytes in omega arith)
 
+-- where no shorter front passes behind a prefix, none passes with it
 pub shifted-shorter : {test inner : List ℕ → Bool} {bytes : List ℕ} {k : ℕ} → IsShifted test inner bytes k → (n : ℕ)
     → NoneShorter inner (drop k bytes) n → NoneShorter test bytes (k + n)
 shifted-shorter {test} {inner} {bytes} {k} s n none m lt = by_order (cases_lt m k)
@@ -55,17 +59,7 @@ pub quoted-shifted : (quote : ℕ) (bytes : List ℕ) → begins_with (λ c. c =
 quoted-shifted quote [] h = absurd cc
 quoted-shifted quote (c ∷ cs) h = shifted_one (is_quoted quote) (is_quoted_tail quote) c cs refl (λ r. rw h refl)
 
-pub quoted-none : (quote : ℕ) (bytes : List ℕ) → begins_with (λ c. c == quote) bytes ≡ false
-    → HasNone (is_quoted quote) bytes
-quoted-none quote [] h zero le = refl
-quoted-none quote [] h (suc m) le = refl
-quoted-none quote (c ∷ cs) h zero le = refl
-quoted-none quote (c ∷ cs) h (suc m) le = rw h refl
-
-or_false : (b : Bool) → (b || false) ≡ b
-or_false true = refl
-or_false false = refl
-
+-- a prefix of one byte is `L`, `u` or `U`
 pub wide_cases : (c : ℕ) → is_wide c ≡ true → ((c ≡ 76) ⊎ (c ≡ 117)) ⊎ (c ≡ 85)
 wide_cases c h = by_last (or_cases (c == 76 || c == 117) (c == 85) h)
   where
@@ -77,6 +71,7 @@ wide_cases c h = by_last (or_cases (c == 76 || c == 117) (c == 85) h)
     by_last (inl e) = by_first (or_cases (c == 76) (c == 117) e)
     by_last (inr e) = inr (eqb-true c 85 e)
 
+-- behind a prefix of one byte a character constant is what its quotes enclose
 char_behind : (c : ℕ) → is_wide c ≡ true → (r : List ℕ) → is_char (c ∷ r) ≡ is_quoted 39 r
 char_behind c h r = by_case (wide_cases c h)
   where
@@ -92,6 +87,7 @@ char-shifted (c ∷ cs) h = shifted_one is_char (is_quoted 39) c cs refl (char_b
 not_wide : (c : ℕ) → is_wide c ≡ false → (nat_eq 76 c ≡ false) × (nat_eq 117 c ≡ false) × (nat_eq 85 c ≡ false)
 not_wide c h = (grind arith, grind arith, grind arith)
 
+-- without a prefix a front is a character constant just if it is quoted
 pub char-plain : (bytes : List ℕ) → begins_with is_wide bytes ≡ false → (m : ℕ)
     → is_char (take m bytes) ≡ is_quoted 39 (take m bytes)
 char-plain [] h zero = refl
@@ -112,6 +108,7 @@ text_u : (r : List ℕ) → begins_with (λ c. c == 56) r ≡ false → is_text 
 text_u [] h = refl
 text_u (d ∷ r) h = rw (let e : nat_eq 56 d ≡ false = grind arith in e) (or_false (is_quoted 34 (d ∷ r)))
 
+-- behind a prefix of one byte that is no `u8` a string literal is what its quotes enclose
 text_behind : (c : ℕ) → is_wide c ≡ true → (r : List ℕ) → begins_u8 (c ∷ r) ≡ false → is_text (c ∷ r) ≡ is_quoted 34 r
 text_behind c h r short = by_case (wide_cases c h)
   where
@@ -120,6 +117,7 @@ text_behind c h r short = by_case (wide_cases c h)
     by_case (inl (inr e)) = rw e (text_u r (rw e at short))
     by_case (inr e) = rw e (or_false (is_quoted 34 r))
 
+-- a front of bytes that do not begin with `u8` does not either
 u8_front : (c : ℕ) (cs : List ℕ) (m : ℕ) → begins_u8 (c ∷ cs) ≡ false → begins_u8 (c ∷ take m cs) ≡ false
 u8_front c cs zero h = by_test (c == 117)
   where
@@ -129,6 +127,7 @@ u8_front c cs zero h = by_test (c == 117)
 u8_front c [] (suc m) h = h
 u8_front c (d ∷ cs) (suc m) h = h
 
+-- behind a prefix of one byte that is no `u8` a string literal is quoted bytes one further
 pub text-shifted : (bytes : List ℕ) → begins_with is_wide bytes ≡ true → begins_u8 bytes ≡ false
     → IsShifted is_text (is_quoted 34) bytes 1
 text-shifted [] h short = absurd cc
@@ -136,12 +135,14 @@ text-shifted (c ∷ cs) h short = record { fits = omega arith; behind = behind; 
   where
     behind : (m : ℕ) → 1 ≤ m → is_text (take m (c ∷ cs)) ≡ is_quoted 34 (take (m - 1) cs)
     behind zero le = absurd (omega arith)
-    behind (suc m) le = rw (let e : suc m - 1 ≡ m = omega arith in e) (text_behind c h (take m cs) (u8_front c cs m short))
+    behind (suc m) le =
+        rw (let e : suc m - 1 ≡ m = omega arith in e) (text_behind c h (take m cs) (u8_front c cs m short))
 
     before : (m : ℕ) → m < 1 → is_text (take m (c ∷ cs)) ≡ false
     before zero lt = refl
     before (suc m) lt = absurd (omega arith)
 
+-- behind `u8` a string literal is quoted bytes two further
 pub u8-shifted : (bytes : List ℕ) → begins_u8 bytes ≡ true → IsShifted is_text (is_quoted 34) bytes 2
 u8-shifted [] h = absurd cc
 u8-shifted (c ∷ []) h = absurd (by_test (c == 117) h)
@@ -158,13 +159,15 @@ u8-shifted (c ∷ d ∷ cs) h =
     behind : c ≡ 117 → d ≡ 56 → (m : ℕ) → 2 ≤ m → is_text (take m (c ∷ d ∷ cs)) ≡ is_quoted 34 (take (m - 2) cs)
     behind e f zero le = absurd (omega arith)
     behind e f (suc zero) le = absurd (omega arith)
-    behind e f (suc (suc m)) le = rw (let g : suc (suc m) - 2 ≡ m = omega arith in g, e, f) (or_false (is_quoted 34 (take m cs)))
+    behind e f (suc (suc m)) le =
+        rw (let g : suc (suc m) - 2 ≡ m = omega arith in g, e, f) (or_false (is_quoted 34 (take m cs)))
 
     before : c ≡ 117 → d ≡ 56 → (m : ℕ) → m < 2 → is_text (take m (c ∷ d ∷ cs)) ≡ false
     before e f zero lt = refl
     before e f (suc zero) lt = rw e refl
     before e f (suc (suc m)) lt = absurd (omega arith)
 
+-- without a prefix a front is a string literal just if it is quoted
 pub text-plain : (bytes : List ℕ) → begins_with is_wide bytes ≡ false → (m : ℕ)
     → is_text (take m bytes) ≡ is_quoted 34 (take m bytes)
 text-plain [] h zero = refl
@@ -175,6 +178,8 @@ text-plain (c ∷ cs) h (suc m) = let w = not_wide c h in rw (w.0, w.1, w.2) (or
 -- what a search for the longest front of one test says of another that agrees on each front
 pub alike : (test inner : List ℕ → Bool) (bytes : List ℕ) → ((m : ℕ) → test (take m bytes) ≡ inner (take m bytes))
     → (r : Option ℕ) →
-    MatchOption r (HasNone inner bytes) (λ n. IsLongestOf inner bytes n) → MatchOption r (HasNone test bytes) (λ n. IsLongestOf test bytes n)
+    MatchOption r (HasNone inner bytes) (λ n. IsLongestOf inner bytes n)
+    → MatchOption r (HasNone test bytes) (λ n. IsLongestOf test bytes n)
 alike test inner bytes same None h = λ m le. same m ∙ h m le
-alike test inner bytes same (Some n) h = record { inside = h.inside; passes = same n ∙ h.passes; longest = λ m lt le. same m ∙ h.longest m lt le }
+alike test inner bytes same (Some n) h =
+    record { inside = h.inside; passes = same n ∙ h.passes; longest = λ m lt le. same m ∙ h.longest m lt le }

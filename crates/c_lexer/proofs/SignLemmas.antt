@@ -20,7 +20,9 @@ no_entry p (entry ∷ entries) bytes none passes =
     by_test : (b : Bool) → bytes_eq bytes entry.0 ≡ b → not (p entry.0) ≡ true
         → find (λ entry. bytes_eq bytes entry.0) entries ≡ None →
         cond b (Some entry) (find (λ entry. bytes_eq bytes entry.0) entries) ≡ None
-    by_test true is fails rest = absurd (let same : bytes ≡ entry.0 = (bytes_eq-Decides bytes entry.0).0 is in let h = rw same at passes in let g = rw h at fails in cc)
+    by_test true is fails rest =
+        absurd (let same : bytes ≡ entry.0 = (bytes_eq-Decides bytes entry.0).0 is in let h = rw same at passes in
+        let g = rw h at fails in cc)
     by_test false is fails rest = rest
 
 pub no_sign : (p : List ℕ → Bool) (bytes : List ℕ) → list_all (λ entry. not (p entry.0)) signs ≡ true → p bytes ≡ true
@@ -65,6 +67,7 @@ pub sign-nil : sign_kind [] ≡ None
 unfolding signs sign_kind
 sign-nil = refl
 
+-- a sign that is found in a front of some length is of bytes of that length, which are there
 some-fits : (n : ℕ) (bytes : List ℕ) (sign : Punct)
     → cond (nat_le n (length bytes)) (sign_kind (take n bytes)) None ≡ Some sign
     → (n ≤ length bytes) × (sign_kind (take n bytes) ≡ Some sign)
@@ -85,6 +88,7 @@ none-at bytes n none le = rw (le-leb n (length bytes) le) at none
 past_three : (bytes : List ℕ) (m : ℕ) → 3 < m → m ≤ length bytes → is_sign (take m bytes) ≡ false
 past_three bytes m lt le = rw (sign-long (take m bytes) (let l = length-take-le m bytes le in omega arith)) refl
 
+-- a sign of up to three bytes, where no longer one is found, is the longest
 pub sign-found : (bytes : List ℕ) (n : ℕ) (sign : Punct) → n ≤ 3
     → cond (nat_le n (length bytes)) (sign_kind (take n bytes)) None ≡ Some sign →
     ((m : ℕ) → n < m → m ≤ 3 → NoneAt bytes m) → (sign_kind (take n bytes) ≡ Some sign) × IsLongestOf is_sign bytes n
@@ -99,6 +103,7 @@ sign-found bytes n sign few found none =
         by_order (inl past) = past_three bytes m past le
         by_order (inr within) = rw (none-at bytes m (none m lt within) le) refl
 
+-- where no sign of one, two or three bytes is found, none is in front
 pub sign-none : (bytes : List ℕ) → ((m : ℕ) → 0 < m → m ≤ 3 → NoneAt bytes m) → HasNone is_sign bytes
 sign-none bytes none zero le = rw sign-nil refl
 sign-none bytes none (suc m) le = by_order (cases_lt 3 (suc m))
@@ -111,6 +116,7 @@ sign-none bytes none (suc m) le = by_order (cases_lt 3 (suc m))
 pub above_two : (P : ℕ → Type 0) → P 3 → (m : ℕ) → 2 < m → m ≤ 3 → P m
 above_two P three m lt le = subst P (let e : 3 ≡ m = omega arith in e) three
 
+-- what holds of 3 and of 2 holds of each number above 1 up to 3
 pub above_one : (P : ℕ → Type 0) → P 3 → P 2 → (m : ℕ) → 1 < m → m ≤ 3 → P m
 above_one P three two m lt le = by_order (cases_lt 2 m)
   where
@@ -118,6 +124,7 @@ above_one P three two m lt le = by_order (cases_lt 2 m)
     by_order (inl more) = above_two P three m more le
     by_order (inr less) = subst P (let e : 2 ≡ m = omega arith in e) two
 
+-- what holds of 3, of 2 and of 1 holds of each number above 0 up to 3
 pub above_zero : (P : ℕ → Type 0) → P 3 → P 2 → P 1 → (m : ℕ) → 0 < m → m ≤ 3 → P m
 above_zero P three two one m lt le = by_order (cases_lt 1 m)
   where

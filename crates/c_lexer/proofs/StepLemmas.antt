@@ -27,21 +27,41 @@ slashes_begin : (bytes : List ℕ) → starts_with nat_eq bytes (codes "//") ≡
 slashes_begin [] h = absurd cc
 slashes_begin (c ∷ cs) h = let same : 47 ≡ c = eqb-true 47 c (and_parts (nat_eq 47 c) _ h).0 in rw (← same) refl
 
+-- a gap of any kind has one byte at least, and is within the bytes
 pub gap-fits : (gap : Gap) (fresh : Bool) (bytes : List ℕ) (n : ℕ) → IsGap gap fresh bytes n
     → (0 < n) × (n ≤ length bytes)
-gap-fits Blank fresh bytes n h = let some = begins_some is_blank bytes h.0 in let one = h.1 in (omega arith, omega arith)
-gap-fits LineFeed fresh bytes n h = let some = begins_some (λ c. c == 10) bytes h.0 in let one = h.1 in (omega arith, omega arith)
-gap-fits OtherSpace fresh bytes n h = let some = begins_some is_other_space bytes h.0 in let one = h.1 in (omega arith, omega arith)
-gap-fits BlockComment fresh bytes n h = let long = h.long in let inside = closes_inside bytes (n - 2) h.closes in (omega arith, omega arith)
+gap-fits Blank fresh bytes n h =
+    let some = begins_some is_blank bytes h.0 in
+    let one = h.1 in
+    (omega arith, omega arith)
+gap-fits LineFeed fresh bytes n h =
+    let some = begins_some (λ c. c == 10) bytes h.0 in
+    let one = h.1 in
+    (omega arith, omega arith)
+gap-fits OtherSpace fresh bytes n h =
+    let some = begins_some is_other_space bytes h.0 in
+    let one = h.1 in
+    (omega arith, omega arith)
+gap-fits BlockComment fresh bytes n h =
+    let long = h.long in
+    let inside = closes_inside bytes (n - 2) h.closes in
+    (omega arith, omega arith)
 gap-fits LineComment fresh bytes n h =
-    let some = line_some bytes 47 refl (slashes_begin bytes h.0) in let most = prefix_len-le-length (λ c. not (c == 10)) bytes in let is = h.1 in (omega arith, omega arith)
+    let some = line_some bytes 47 refl (slashes_begin bytes h.0) in
+    let most = prefix_len-le-length (λ c. not (c == 10)) bytes in
+    let is = h.1 in
+    (omega arith, omega arith)
 gap-fits SkippedLine fresh bytes n h =
-    let some = line_some bytes 35 refl h.1 in let most = prefix_len-le-length (λ c. not (c == 10)) bytes in let is = h.2 in (omega arith, omega arith)
+    let some = line_some bytes 35 refl h.1 in
+    let most = prefix_len-le-length (λ c. not (c == 10)) bytes in
+    let is = h.2 in
+    (omega arith, omega arith)
 
 pub no-comment : (fresh : Bool) (bytes : List ℕ) → HasNoGap fresh bytes → starts_with nat_eq bytes (codes "/*") ≡ false
     → begins_comment bytes ≡ false
 no-comment fresh bytes none block =
-    or_from (starts_with nat_eq bytes (codes "/*")) (starts_with nat_eq bytes (codes "//")) block (false_from_ne_true _ (λ line. none LineComment (line_len bytes) (line, refl)))
+    or_from (starts_with nat_eq bytes (codes "/*")) (starts_with nat_eq bytes (codes "//")) block
+    (false_from_ne_true _ (λ line. none LineComment (line_len bytes) (line, refl)))
 
 pub nil_token : is_token [] ≡ false
 unfolding sign_kind signs
@@ -52,6 +72,7 @@ pub token-some : (bytes : List ℕ) (n : ℕ) → IsLongestOf is_token bytes n �
 token-some bytes zero long = absurd (both_ways (is_token []) nil_token long.passes)
 token-some bytes (suc n) long = omega arith
 
+-- where nothing begins, reading stops as unended or at a bad byte
 pub stuck : (unit : ℕ) (wide : Bool) (words : Meanings) (bytes : List ℕ) (front : Front) (stop : Stop)
     → stop ≡ (if opens (drop front.at bytes) then Unended else BadByte) → IsStuck bytes front
     → StopsAt unit wide words bytes front front stop

@@ -23,8 +23,10 @@ use Rattle.c_lexer.proofs.StepLemmas.{nil_token}
 abbrev gap_class : List ℕ → Gap
 gap_class [] = Blank
 gap_class (c ∷ cs) =
-    if is_blank c then Blank else (if c == 10 then LineFeed else (if is_other_space c then OtherSpace else (if c == 35 then SkippedLine else (if begins_with (λ d. d == 42) cs then BlockComment else LineComment))))
+    if is_blank c then Blank else (if c == 10 then LineFeed else (if is_other_space c then OtherSpace
+    else (if c == 35 then SkippedLine else (if begins_with (λ d. d == 42) cs then BlockComment else LineComment))))
 
+-- bytes that start with a slash and a byte have these as their first two
 slash_then : (b c d : ℕ) (r : List ℕ) → starts_with nat_eq (c ∷ d ∷ r) (47 ∷ b ∷ []) ≡ true → (c ≡ 47) × (d ≡ b)
 slash_then b c d r h =
     let parts = and_parts (nat_eq 47 c) (nat_eq b d && true) h in
@@ -33,6 +35,7 @@ slash_then b c d r h =
 slash_one : (b c : ℕ) → starts_with nat_eq (c ∷ []) (47 ∷ b ∷ []) ≡ true → ⊥
 slash_one b c h = let parts = and_parts (nat_eq 47 c) false h in cc
 
+-- a gap's kind is the one that its first bytes determine
 gap_class-is : (gap : Gap) (fresh : Bool) (bytes : List ℕ) (n : ℕ) → IsGap gap fresh bytes n → gap_class bytes ≡ gap
 gap_class-is Blank fresh [] n h = refl
 gap_class-is Blank fresh (c ∷ cs) n h = rw h.0 refl
@@ -41,7 +44,11 @@ gap_class-is LineFeed fresh (c ∷ cs) n h = let e : c ≡ 10 = eqb-true c 10 h.
 gap_class-is OtherSpace fresh [] n h = absurd (let e = h.0 in cc)
 gap_class-is OtherSpace fresh (c ∷ cs) n h =
     let other : is_other_space c ≡ true = h.0 in
-    rw (let e : is_blank c ≡ false = grind (arith, nat_tests) in e, let e : (c == 10) ≡ false = grind (arith, nat_tests) in e, other) refl
+    rw (
+      let e : is_blank c ≡ false = grind (arith, nat_tests) in e,
+      let e : (c == 10) ≡ false = grind (arith, nat_tests) in e,
+      other,
+    ) refl
 gap_class-is BlockComment fresh [] n h = absurd (let e = h.opens in cc)
 gap_class-is BlockComment fresh (c ∷ []) n h = absurd (slash_one 42 c h.opens)
 gap_class-is BlockComment fresh (c ∷ d ∷ r) n h = let e = slash_then 42 c d r h.opens in rw (e.0, e.1) refl
@@ -58,6 +65,7 @@ gap-unique fresh bytes one other n k h g = sym (gap_class-is one fresh bytes n h
 block_len : (bytes : List ℕ) (n k : ℕ) → IsBlockComment bytes n → IsBlockComment bytes k → n < k → ⊥
 block_len bytes n k h g lt = let long = h.long in g.first (n - 2) (omega arith) (omega arith) h.closes
 
+-- two gaps of one kind in front of the same bytes have one length
 pub gap-len : (gap : Gap) (fresh : Bool) (bytes : List ℕ) (n k : ℕ) → IsGap gap fresh bytes n → IsGap gap fresh bytes k
     → n ≡ k
 gap-len Blank fresh bytes n k h g = h.1 ∙ sym g.1
@@ -86,27 +94,35 @@ quoted_more quote plain (c ∷ d ∷ cs) (suc zero) (suc (suc n)) lt le h =
     rw (let e : (c == 92) ≡ false = ne_eqb c 92 (λ e. plain (sym same ∙ e)) in e, h) refl
 quoted_more quote plain (c ∷ d ∷ cs) (suc (suc k)) (suc zero) lt le h = absurd (omega arith)
 quoted_more quote plain (c ∷ d ∷ cs) (suc (suc k)) (suc (suc n)) lt le h =
-    by_test (c == 92) h (λ h. quoted_more quote plain cs k n (omega arith) (omega arith) h) (λ h. quoted_more quote plain (d ∷ cs) (suc k) (suc n) (omega arith) (omega arith) h)
+    by_test (c == 92) h (λ h. quoted_more quote plain cs k n (omega arith) (omega arith) h)
+    (λ h. quoted_more quote plain (d ∷ cs) (suc k) (suc n) (omega arith) (omega arith) h)
   where
     by_test : (b : Bool)
-        → cond b (not (d == 10) && is_quoted_tail quote (take k cs)) (not (c == quote) && not (c == 10) && is_quoted_tail quote (d ∷ take k cs)) ≡ true →
+        → cond b (not (d == 10) && is_quoted_tail quote (take k cs))
+        (not (c == quote) && not (c == 10) && is_quoted_tail quote (d ∷ take k cs)) ≡ true →
         (is_quoted_tail quote (take k cs) ≡ true → is_quoted_tail quote (take n cs) ≡ false) →
         (is_quoted_tail quote (d ∷ take k cs) ≡ true → is_quoted_tail quote (d ∷ take n cs) ≡ false) →
-        cond b (not (d == 10) && is_quoted_tail quote (take n cs)) (not (c == quote) && not (c == 10) && is_quoted_tail quote (d ∷ take n cs)) ≡ false
+        cond b (not (d == 10) && is_quoted_tail quote (take n cs))
+        (not (c == quote) && not (c == 10) && is_quoted_tail quote (d ∷ take n cs)) ≡ false
     by_test true h escaped other = let parts = and_parts (not (d == 10)) _ h in rw (parts.0, escaped parts.1) refl
-    by_test false h escaped other = let parts = and_parts (not (c == quote) && not (c == 10)) _ h in rw (parts.0, other parts.1) refl
+    by_test false h escaped other =
+        let parts = and_parts (not (c == quote) && not (c == 10)) _ h in
+        rw (parts.0, other parts.1) refl
 
 plain_quote : (quote : ℕ) → quote ≡ 34 → quote ≢ 92
 plain_quote quote is e = omega (arith, is, e)
 
+-- of two fronts of different lengths not both are quoted
 quoted_apart : (bytes : List ℕ) (k n : ℕ) → k < n → n ≤ length bytes → is_quoted 34 (take k bytes) ≡ true
     → is_quoted 34 (take n bytes) ≡ true → ⊥
 quoted_apart bytes zero n lt le h g = cc
 quoted_apart [] (suc k) n lt le h g = cc
 quoted_apart (c ∷ cs) (suc k) zero lt le h g = cc
 quoted_apart (c ∷ cs) (suc k) (suc n) lt le h g =
-    both_ways _ (quoted_more 34 (plain_quote 34 refl) cs k n (omega arith) (omega arith) (and_parts (c == 34) _ h).1) (and_parts (c == 34) _ g).1
+    both_ways _ (quoted_more 34 (plain_quote 34 refl) cs k n (omega arith) (omega arith) (and_parts (c == 34) _ h).1)
+    (and_parts (c == 34) _ g).1
 
+-- two quoted fronts of the same bytes have one length
 quoted_len : (bytes : List ℕ) (k n : ℕ) → k ≤ length bytes → n ≤ length bytes → is_quoted 34 (take k bytes) ≡ true
     → is_quoted 34 (take n bytes) ≡ true → k ≡ n
 quoted_len bytes k n le within h g = by_order (cases_order k n)
@@ -121,11 +137,16 @@ abbrev parts_in : List ℕ → Parts
 parts_in line =
     let digits_at = 1 + prefix_len is_blank (drop 1 line) in
     let digits_end = digits_at + prefix_len is_digit (drop digits_at line) in
-    record { digits_at = digits_at; digits_end = digits_end; quote_at = digits_end + prefix_len is_blank (drop digits_end line) }
+    record {
+      digits_at = digits_at;
+      digits_end = digits_end;
+      quote_at = digits_end + prefix_len is_blank (drop digits_end line);
+    }
 
 same_marker : (a b : Marker) → a.number ≡ b.number → a.name_from ≡ b.name_from → a.name_to ≡ b.name_to → a ≡ b
 same_marker a b n f t = λ i. record { number = n i; name_from = f i; name_to = t i }
 
+-- a line is one linemarker at most
 pub marker-unique : (line : List ℕ) (a b : Marker) → IsMarker line a → IsMarker line b → a ≡ b
 marker-unique line a b h g =
     let read : IsReadAt line (parts_in line) = record { digits_at = refl; digits_end = refl; quote_at = refl } in
@@ -136,10 +157,13 @@ marker-unique line a b h g =
     let len = quoted_len (drop (parts_in line).quote_at line) file.0 file'.0 file.1 file'.1 file.2 file'.2 in
     let ends : a.name_to + 1 ≡ b.name_to + 1 = file.3 ∙ ap (λ n. (parts_in line).quote_at + n) len ∙ sym file'.3 in
     same_marker a b
-    (h.number ∙ ap (λ (at : ℕ × ℕ). decimal (slice_range line at.0 at.1)) (let e : (h.digits_at, h.digits_end) ≡ (g.digits_at, g.digits_end) = λ i. ((one.digits_at ∙ sym other.digits_at) i, (one.digits_end ∙ sym other.digits_end) i) in e) ∙ sym g.number)
+    (h.number ∙ ap (λ (at : ℕ × ℕ). decimal (slice_range line at.0 at.1))
+    (let e : (h.digits_at, h.digits_end) ≡ (g.digits_at, g.digits_end) =
+    λ i. ((one.digits_at ∙ sym other.digits_at) i, (one.digits_end ∙ sym other.digits_end) i) in e) ∙ sym g.number)
     (h.name_from ∙ ap (λ n. n + 1) (one.quote_at ∙ sym other.quote_at) ∙ sym g.name_from)
     (omega (arith, ends))
 
+-- behind a gap the marks are one list
 pub marks-unique : (bytes : List ℕ) (gap : Gap) (at n : ℕ) (marks one other : List Mark)
     → MarksBehind bytes gap at n marks one → MarksBehind bytes gap at n marks other → one ≡ other
 marks-unique bytes Blank at n marks one other h g = h ∙ sym g
@@ -148,7 +172,8 @@ marks-unique bytes OtherSpace at n marks one other h g = h ∙ sym g
 marks-unique bytes BlockComment at n marks one other h g = h ∙ sym g
 marks-unique bytes LineComment at n marks one other h g = h ∙ sym g
 marks-unique bytes SkippedLine at n marks one other (inl h) (inl g) =
-    h.2 ∙ ap (λ m. marks ++ mark_of at n m ∷ []) (marker-unique (slice_range bytes at (at + n)) h.0 g.0 h.1 g.1) ∙ sym g.2
+    h.2 ∙ ap (λ m. marks ++ mark_of at n m ∷ [])
+    (marker-unique (slice_range bytes at (at + n)) h.0 g.0 h.1 g.1) ∙ sym g.2
 marks-unique bytes SkippedLine at n marks one other (inl h) (inr g) = absurd (g.0 h.0 h.1)
 marks-unique bytes SkippedLine at n marks one other (inr h) (inl g) = absurd (h.0 g.0 g.1)
 marks-unique bytes SkippedLine at n marks one other (inr h) (inr g) = h.1 ∙ sym g.1
@@ -161,6 +186,7 @@ sign_gap : (bytes : List ℕ) → begins_with is_gap_byte bytes ≡ true → sig
 unfolding signs
 sign_gap bytes h = no_sign (begins_with is_gap_byte) bytes refl h
 
+-- bytes that begin with a byte of gaps are no token
 gap_token : (c : ℕ) (r : List ℕ) → is_gap_byte c ≡ true → is_token (c ∷ r) ≡ false
 gap_token c r h = by_7 (or_cases _ (c == 35) h)
   where
@@ -192,6 +218,7 @@ gap_token c r h = by_7 (or_cases _ (c == 35) h)
     by_7 (inl e) = by_6 (or_cases _ (c == 13) e)
     by_7 (inr e) = at 35 (eqb-true c 35 e) (no_token (35 ∷ r) refl refl refl refl refl (sign_gap (35 ∷ r) refl))
 
+-- no front of bytes that begin with a byte of gaps is a token
 byte_token : (bytes : List ℕ) (n : ℕ) → begins_with is_gap_byte bytes ≡ true → is_token (take n bytes) ≡ false
 byte_token bytes zero h = nil_token
 byte_token [] (suc n) h = absurd cc
@@ -201,12 +228,20 @@ byte_token (c ∷ cs) (suc n) h = gap_token c (take n cs) h
 pub gap-no_token : (gap : Gap) (fresh : Bool) (bytes : List ℕ) (k n : ℕ) → IsGap gap fresh bytes k
     → begins_comment bytes ≡ false → is_token (take n bytes) ≡ true → ⊥
 gap-no_token Blank fresh [] k n h none t = let e = h.0 in cc
-gap-no_token Blank fresh (c ∷ cs) k n h none t = let e : is_blank c ≡ true = h.0 in both_ways _ (byte_token (c ∷ cs) n (let f : is_gap_byte c ≡ true = grind arith in f)) t
+gap-no_token Blank fresh (c ∷ cs) k n h none t =
+    let e : is_blank c ≡ true = h.0 in
+    both_ways _ (byte_token (c ∷ cs) n (let f : is_gap_byte c ≡ true = grind arith in f)) t
 gap-no_token LineFeed fresh [] k n h none t = let e = h.0 in cc
-gap-no_token LineFeed fresh (c ∷ cs) k n h none t = let e : c ≡ 10 = eqb-true c 10 h.0 in both_ways _ (byte_token (c ∷ cs) n (rw e refl)) t
+gap-no_token LineFeed fresh (c ∷ cs) k n h none t =
+    let e : c ≡ 10 = eqb-true c 10 h.0 in
+    both_ways _ (byte_token (c ∷ cs) n (rw e refl)) t
 gap-no_token OtherSpace fresh [] k n h none t = let e = h.0 in cc
-gap-no_token OtherSpace fresh (c ∷ cs) k n h none t = let e : is_other_space c ≡ true = h.0 in both_ways _ (byte_token (c ∷ cs) n (let f : is_gap_byte c ≡ true = grind arith in f)) t
+gap-no_token OtherSpace fresh (c ∷ cs) k n h none t =
+    let e : is_other_space c ≡ true = h.0 in
+    both_ways _ (byte_token (c ∷ cs) n (let f : is_gap_byte c ≡ true = grind arith in f)) t
 gap-no_token BlockComment fresh bytes k n h none t = both_ways _ none (or_left _ _ h.opens)
 gap-no_token LineComment fresh bytes k n h none t = both_ways _ none (or_right _ _ h.0)
 gap-no_token SkippedLine fresh [] k n h none t = let e = h.1 in cc
-gap-no_token SkippedLine fresh (c ∷ cs) k n h none t = let e : c ≡ 35 = eqb-true c 35 h.1 in both_ways _ (byte_token (c ∷ cs) n (rw e refl)) t
+gap-no_token SkippedLine fresh (c ∷ cs) k n h none t =
+    let e : c ≡ 35 = eqb-true c 35 h.1 in
+    both_ways _ (byte_token (c ∷ cs) n (rw e refl)) t

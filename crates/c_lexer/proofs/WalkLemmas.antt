@@ -8,20 +8,27 @@ use Rattle.c_lexer.specs.Spelling.{IsLongestOf, HasNone, is_quoted_tail}
 
 -- the test of a front of at least `at` bytes, from the state s, is its test from the state s' behind the first `at`
 abbrev pub Follows : {S : Type 0} → (S → List ℕ → Bool) → S → List ℕ → ℕ → S → Type 0
-Follows test s bytes at s' = (m : ℕ) → at ≤ m → m ≤ length bytes → test s (take m bytes) ≡ test s' (take (m - at) (drop at bytes))
+Follows test s bytes at s' =
+    (m : ℕ) → at ≤ m → m ≤ length bytes → test s (take m bytes) ≡ test s' (take (m - at) (drop at bytes))
 
 -- no front of at most `at` bytes passes
 abbrev pub NoneUpTo : (List ℕ → Bool) → List ℕ → ℕ → Type 0
 NoneUpTo test bytes at = (m : ℕ) → m ≤ at → m ≤ length bytes → test (take m bytes) ≡ false
 
+-- the bytes between two places are the first of them, then those from the next place on
 front_step : (bytes : List ℕ) (at m : ℕ) → at < m → m ≤ length bytes
     → take (m - at) (drop at bytes) ≡ get_or bytes at 0 ∷ take (m - (at + 1)) (drop (at + 1) bytes)
 front_step [] at m lt le = absurd (omega arith)
 front_step (c ∷ cs) zero zero lt le = absurd (omega arith)
-front_step (c ∷ cs) zero (suc m) lt le = rw (let e : suc m - 0 ≡ suc m = omega arith in e, let e : suc m - (0 + 1) ≡ m = omega arith in e) refl
+front_step (c ∷ cs) zero (suc m) lt le =
+    rw (let e : suc m - 0 ≡ suc m = omega arith in e, let e : suc m - (0 + 1) ≡ m = omega arith in e) refl
 front_step (c ∷ cs) (suc at) zero lt le = absurd (omega arith)
 front_step (c ∷ cs) (suc at) (suc m) lt le =
-    rw (let e : suc m - suc at ≡ m - at = omega arith in e, let e : suc m - (suc at + 1) ≡ m - (at + 1) = omega arith in e, let e : suc at + 1 ≡ suc (at + 1) = omega arith in e)
+    rw (
+      let e : suc m - suc at ≡ m - at = omega arith in e,
+      let e : suc m - (suc at + 1) ≡ m - (at + 1) = omega arith in e,
+      let e : suc at + 1 ≡ suc (at + 1) = omega arith in e,
+    )
     (front_step cs at m (omega arith) (omega arith))
 
 pub follows-start : {S : Type 0} (test : S → List ℕ → Bool) (s : S) (bytes : List ℕ) → Follows test s bytes 0 s
@@ -31,16 +38,19 @@ pub follows-more : {S : Type 0} (test : S → List ℕ → Bool) (s s' s'' : S) 
     → Follows test s bytes at s' →
     ((r : List ℕ) → test s' (get_or bytes at 0 ∷ r) ≡ test s'' r) → Follows test s bytes (at + 1) s''
 follows-more test s s' s'' bytes at f step m lo le =
-    f m (omega arith) le ∙ ap (test s') (front_step bytes at m (omega arith) le) ∙ step (take (m - (at + 1)) (drop (at + 1) bytes))
+    f m (omega arith) le ∙ ap (test s') (front_step bytes at m (omega arith) le)
+    ∙ step (take (m - (at + 1)) (drop (at + 1) bytes))
 
 -- the front that ends where nothing goes on
 pub follows-stop : {S : Type 0} (test : S → List ℕ → Bool) (s s' : S) (bytes : List ℕ) (at : ℕ) → at ≤ length bytes
     → Follows test s bytes at s' →
-    test s' [] ≡ true → ((r : List ℕ) → at < length bytes → test s' (get_or bytes at 0 ∷ r) ≡ false) → IsLongestOf (test s) bytes at
+    test s' [] ≡ true → ((r : List ℕ) → at < length bytes → test s' (get_or bytes at 0 ∷ r) ≡ false)
+    → IsLongestOf (test s) bytes at
 follows-stop test s s' bytes at within f done stop = record {
   inside = within;
   passes = f at (omega arith) within ∙ rw (let e : at - at ≡ 0 = omega arith in e) done;
-  longest = λ m lt le. f m (omega arith) le ∙ ap (test s') (front_step bytes at m (omega arith) le) ∙ stop (take (m - (at + 1)) (drop (at + 1) bytes)) (omega arith);
+  longest = λ m lt le. f m (omega arith) le ∙ ap (test s') (front_step bytes at m (omega arith) le)
+      ∙ stop (take (m - (at + 1)) (drop (at + 1) bytes)) (omega arith);
 }
 
 -- no front passes up to here, and none that goes on
@@ -50,9 +60,12 @@ pub follows-none : {S : Type 0} (test : S → List ℕ → Bool) (s s' : S) (byt
 follows-none test s s' bytes at f none stop m le = by_order (cases_lt at m)
   where
     by_order : (at < m) ⊎ (m ≤ at) → test s (take m bytes) ≡ false
-    by_order (inl lt) = f m (omega arith) le ∙ ap (test s') (front_step bytes at m (omega arith) le) ∙ stop (take (m - (at + 1)) (drop (at + 1) bytes)) (omega arith)
+    by_order (inl lt) =
+        f m (omega arith) le ∙ ap (test s') (front_step bytes at m (omega arith) le)
+        ∙ stop (take (m - (at + 1)) (drop (at + 1) bytes)) (omega arith)
     by_order (inr lo) = none m lo le
 
+-- where no front up to a place passes, and one byte more fails, no front up to the next place passes
 pub none-more : {S : Type 0} (test : S → List ℕ → Bool) (s s'' : S) (bytes : List ℕ) (at : ℕ)
     → Follows test s bytes (at + 1) s'' → NoneUpTo (test s) bytes at →
     test s'' [] ≡ false → NoneUpTo (test s) bytes (at + 1)
@@ -75,10 +88,13 @@ quoted-nil quote false = refl
 -- the front that ends with the byte that has to be the last
 pub follows-close : {S : Type 0} (test : S → List ℕ → Bool) (s s' : S) (bytes : List ℕ) (at : ℕ) → at < length bytes
     → Follows test s bytes at s' →
-    test s' (get_or bytes at 0 ∷ []) ≡ true → ((d : ℕ) (r : List ℕ) → test s' (get_or bytes at 0 ∷ d ∷ r) ≡ false) → IsLongestOf (test s) bytes (at + 1)
+    test s' (get_or bytes at 0 ∷ []) ≡ true → ((d : ℕ) (r : List ℕ) → test s' (get_or bytes at 0 ∷ d ∷ r) ≡ false)
+    → IsLongestOf (test s) bytes (at + 1)
 follows-close test s s' bytes at within f done stop = record {
   inside = omega arith;
-  passes = f (at + 1) (omega arith) (omega arith) ∙ ap (test s') (front_step bytes at (at + 1) (omega arith) (omega arith)) ∙ rw (let e : at + 1 - (at + 1) ≡ 0 = omega arith in e) done;
+  passes =
+      f (at + 1) (omega arith) (omega arith) ∙ ap (test s') (front_step bytes at (at + 1) (omega arith) (omega arith))
+      ∙ rw (let e : at + 1 - (at + 1) ≡ 0 = omega arith in e) done;
   longest = longer;
 }
   where
@@ -89,7 +105,8 @@ follows-close test s s' bytes at within f done stop = record {
     longer : (m : ℕ) → at + 1 < m → m ≤ length bytes → test s (take m bytes) ≡ false
     longer m lt le =
         let rest = take (m - (at + 1)) (drop (at + 1) bytes) in
-        let long : 0 < length rest = (let a = length-take (m - (at + 1)) (drop (at + 1) bytes) in let b = length-drop (at + 1) bytes in omega arith) in
+        let long : 0 < length rest = (let a = length-take (m - (at + 1)) (drop (at + 1) bytes) in
+        let b = length-drop (at + 1) bytes in omega arith) in
         f m (omega arith) le ∙ ap (test s') (front_step bytes at m (omega arith) le) ∙ by_rest rest long
 
 module _ (quote : ℕ) (plain : quote ≢ 92) (inline : quote ≢ 10) where
@@ -121,6 +138,7 @@ module _ (quote : ℕ) (plain : quote ≢ 92) (inline : quote ≢ 10) where
   quoted-more false x line e (d ∷ r) = by_test (x == 92) refl
     where
       by_test : (b : Bool) → (x == 92) ≡ b
-          → cond b (not (d == 10) && is_quoted_tail quote r) (not (x == quote) && not (x == 10) && is_quoted_tail quote (d ∷ r)) ≡ quoted_from quote b (d ∷ r)
+          → cond b (not (d == 10) && is_quoted_tail quote r)
+          (not (x == quote) && not (x == 10) && is_quoted_tail quote (d ∷ r)) ≡ quoted_from quote b (d ∷ r)
       by_test true is = refl
       by_test false is = rw (e, ne_eqb x 10 line) refl

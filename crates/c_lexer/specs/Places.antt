@@ -32,8 +32,7 @@ spot_by unit bytes mark at = record {
 }
 
 -- The spot of a place of a unit: the file and the line by the linemarker that governs it, and the column by the number
--- of
--- the byte in its line.
+-- of the byte in its line.
 abbrev pub spot_at : ℕ → List ℕ → List Mark → ℕ → Spot
 spot_at unit bytes marks at = spot_by unit bytes (governing no_mark marks at) at
 

@@ -29,13 +29,17 @@ is_index unit bytes = unit == 0 && starts_with nat_eq bytes (codes "$_")
 
 -- the kind of a token that is spelled so, behind tokens with these different names
 abbrev pub IsKind : ℕ → Bool → Meanings → List (List ℕ) → List ℕ → TokenKind → Type 0
-IsKind unit wide words names bytes (Name id) = (is_word bytes ≡ true) × (word_kind wide bytes ≡ None) × (id ≡ name_number names bytes)
-IsKind unit wide words names bytes (Keyword word) = (is_word bytes ≡ true) × (word_kind wide bytes ≡ Some (AsKeyword word))
+IsKind unit wide words names bytes (Name id) =
+    (is_word bytes ≡ true) × (word_kind wide bytes ≡ None) × (id ≡ name_number names bytes)
+IsKind unit wide words names bytes (Keyword word) =
+    (is_word bytes ≡ true) × (word_kind wide bytes ≡ Some (AsKeyword word))
 IsKind unit wide words names bytes Number = is_number bytes ≡ true
 IsKind unit wide words names bytes Char = is_char bytes ≡ true
-IsKind unit wide words names bytes Text = (is_text bytes ≡ true) ⊎ ((is_word bytes ≡ true) × (word_kind wide bytes ≡ Some AsText))
+IsKind unit wide words names bytes Text =
+    (is_text bytes ≡ true) ⊎ ((is_word bytes ≡ true) × (word_kind wide bytes ≡ Some AsText))
 IsKind unit wide words names bytes (Punct sign) = sign_kind bytes ≡ Some sign
-IsKind unit wide words names bytes (Qual lattice elem) = (is_dollar bytes ≡ true) × (is_index unit bytes ≡ false) × (meaning_of words bytes ≡ Some (lattice, elem))
+IsKind unit wide words names bytes (Qual lattice elem) =
+    (is_dollar bytes ≡ true) × (is_index unit bytes ≡ false) × (meaning_of words bytes ≡ Some (lattice, elem))
 IsKind unit wide words names bytes Index = (is_dollar bytes ≡ true) × (is_index unit bytes ≡ true)
 IsKind unit wide words names bytes End = ⊥
 
@@ -59,7 +63,12 @@ begin = record { at = 0; fresh = true; tokens = []; names = []; marks = [] }
 
 -- what a linemarker of n bytes at a place says of the lines behind it
 abbrev pub mark_of : ℕ → ℕ → Marker → Mark
-mark_of at n marker = record { from = at + n + 1; number = marker.number; name_from = at + marker.name_from; name_to = at + marker.name_to }
+mark_of at n marker = record {
+  from = at + n + 1;
+  number = marker.number;
+  name_from = at + marker.name_from;
+  name_to = at + marker.name_to;
+}
 
 -- the linemarkers behind a gap of n bytes at a place
 abbrev pub MarksBehind : List ℕ → Gap → ℕ → ℕ → List Mark → List Mark → Type 0
@@ -101,7 +110,8 @@ pub data Reaches (unit : ℕ) (wide : Bool) (words : Meanings) (bytes : List ℕ
       → Reaches unit wide words bytes new
 
 -- the bytes spell these tokens, with these different names and linemarkers
-pub record Spells (unit : ℕ) (wide : Bool) (words : Meanings) (bytes : List ℕ) (tokens : List Token) (names : List (List ℕ)) (marks : List Mark) : Type 0 where
+pub record Spells (unit : ℕ) (wide : Bool) (words : Meanings) (bytes : List ℕ) (tokens : List Token)
+    (names : List (List ℕ)) (marks : List Mark) : Type 0 where
   pub front : Front
   pub reached : Reaches unit wide words bytes front
   pub whole : front.at ≡ length bytes
@@ -117,7 +127,9 @@ pub record IsStuck (bytes : List ℕ) (front : Front) : Type 0 where
 
 -- a string, a character constant or a comment begins, whether it ends or not
 abbrev pub opens : List ℕ → Bool
-opens bytes = starts_with nat_eq bytes (codes "'") || starts_with nat_eq bytes (codes "\"") || starts_with nat_eq bytes (codes "/*")
+opens bytes =
+    starts_with nat_eq bytes (codes "'") || starts_with nat_eq bytes (codes "\"")
+    || starts_with nat_eq bytes (codes "/*")
 
 -- at a place stands a `$` word that is no index word and in no lattice
 pub record IsUnknown (unit : ℕ) (words : Meanings) (bytes : List ℕ) (front : Front) : Type 0 where
@@ -148,9 +160,11 @@ pub record IsCounted (front : Front) : Type 0 where
 abbrev pub HasNoKind : ℕ → Meanings → List ℕ → List (List ℕ) → List (List ℕ) → Stop → Type 0
 HasNoKind unit words bytes old new BadByte = ⊥
 HasNoKind unit words bytes old new Unended = ⊥
-HasNoKind unit words bytes old new UnknownQualifier = (new ≡ old) × (is_dollar bytes ≡ true) × (is_index unit bytes ≡ false) × (meaning_of words bytes ≡ None)
+HasNoKind unit words bytes old new UnknownQualifier =
+    (new ≡ old) × (is_dollar bytes ≡ true) × (is_index unit bytes ≡ false) × (meaning_of words bytes ≡ None)
 HasNoKind unit words bytes old new NoMemory = Unit {0}
 
 -- why reading stops behind gaps and tokens in turn
 abbrev pub StopsBehind : ℕ → Bool → Meanings → List ℕ → Front → Stop → Type 0
-StopsBehind unit wide words bytes new stop = (old : Front) × Reaches unit wide words bytes old × StopsAt unit wide words bytes old new stop
+StopsBehind unit wide words bytes new stop =
+    (old : Front) × Reaches unit wide words bytes old × StopsAt unit wide words bytes old new stop

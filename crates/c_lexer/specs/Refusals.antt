@@ -11,11 +11,14 @@ use Rattle.c_lexer.specs.Reading.{Meanings, Front, Reaches, IsStuck, IsUnknown, 
 -- gaps and tokens in turn lead to the place of the fault, which the spot names; want of memory may come anywhere
 abbrev pub IsRefusal : ℕ → Bool → Meanings → List ℕ → LexFault → Type 0
 IsRefusal unit wide words bytes (BadByte spot) =
-    (front : Front) × Reaches unit wide words bytes front × IsStuck bytes front × (opens (drop front.at bytes) ≡ false) × (spot ≡ spot_at unit bytes front.marks front.at)
+    (front : Front) × Reaches unit wide words bytes front × IsStuck bytes front × (opens (drop front.at bytes) ≡ false)
+    × (spot ≡ spot_at unit bytes front.marks front.at)
 IsRefusal unit wide words bytes (Unended spot) =
-    (front : Front) × Reaches unit wide words bytes front × IsStuck bytes front × (opens (drop front.at bytes) ≡ true) × (spot ≡ spot_at unit bytes front.marks front.at)
+    (front : Front) × Reaches unit wide words bytes front × IsStuck bytes front × (opens (drop front.at bytes) ≡ true)
+    × (spot ≡ spot_at unit bytes front.marks front.at)
 IsRefusal unit wide words bytes (UnknownQualifier spot) =
-    (front : Front) × Reaches unit wide words bytes front × IsUnknown unit words bytes front × (spot ≡ spot_at unit bytes front.marks front.at)
+    (front : Front) × Reaches unit wide words bytes front × IsUnknown unit words bytes front
+    × (spot ≡ spot_at unit bytes front.marks front.at)
 IsRefusal unit wide words bytes NoMemory = Unit {0}
 
 -- tokens and marks are answered as these, unless memory is wanting

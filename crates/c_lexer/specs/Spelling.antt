@@ -49,7 +49,8 @@ abbrev pub is_quoted_tail : ℕ → List ℕ → Bool
 is_quoted_tail quote [] = false
 is_quoted_tail quote (c ∷ []) = c == quote
 is_quoted_tail quote (c ∷ d ∷ cs) =
-    if c == 92 then not (d == 10) && is_quoted_tail quote cs else not (c == quote) && not (c == 10) && is_quoted_tail quote (d ∷ cs)
+    if c == 92 then not (d == 10) && is_quoted_tail quote cs
+    else not (c == quote) && not (c == 10) && is_quoted_tail quote (d ∷ cs)
 
 -- bytes between two quotes
 abbrev pub is_quoted : ℕ → List ℕ → Bool
@@ -62,7 +63,8 @@ is_wide c = c == 76 || c == 117 || c == 85
 
 -- bytes between two quotes behind one of some prefixes
 abbrev pub is_prefixed : List (List ℕ) → ℕ → List ℕ → Bool
-is_prefixed prefixes quote bytes = list_any (λ prefix. starts_with nat_eq bytes prefix && is_quoted quote (drop (length prefix) bytes)) prefixes
+is_prefixed prefixes quote bytes =
+    list_any (λ prefix. starts_with nat_eq bytes prefix && is_quoted quote (drop (length prefix) bytes)) prefixes
 
 -- a character constant (C99, 6.4.4.4; C11 for `u` and `U`)
 abbrev pub is_char : List ℕ → Bool

@@ -13,8 +13,7 @@ use Rattle.c_lexer.specs.Places.{spot_at}
 use Rattle.c_lexer.specs.Reading.{Meanings, Spells}
 
 -- A unit with its tokens and linemarkers, whether it is read as wider C, and what `const`, `volatile` and `restrict`
--- mean in the
--- lattices.
+-- mean in the lattices.
 pub record Lexed : Type 0 where
   pub unit : ℕ
   pub wide : Bool
@@ -46,7 +45,8 @@ pub record NamesKeywords (words : Meanings) (lexed : Lexed) : Type 0 where
 
 -- the bytes of the unit spell its tokens and linemarkers, with some list of different names
 abbrev pub IsSpelled : Meanings → Lexed → Type 0
-IsSpelled words lexed = (names : List (List ℕ)) × Spells lexed.unit lexed.wide words lexed.bytes lexed.tokens names lexed.marks
+IsSpelled words lexed =
+    (names : List (List ℕ)) × Spells lexed.unit lexed.wide words lexed.bytes lexed.tokens names lexed.marks
 
 -- The bytes spell the tokens, where the `$` words and the three keywords mean what these words say.
 pub record IsMarkedBy (meanings : Meanings) (lexed : Lexed) : Type 0 where
@@ -76,8 +76,7 @@ abbrev pub IsEnded : List Token → Type 0
 IsEnded tokens = (front : List Token) × (last : Token) × (tokens ≡ front ++ last ∷ []) × (last.kind ≡ End)
 
 -- each token stands within the bytes, which are few enough to number, the last one is the end of the unit, and the
--- lines
--- of the marks come in order
+-- lines of the marks come in order
 pub record IsSound (bytes : List ℕ) (tokens : List Token) (marks : List Mark) : Type 0 where
   pub few : length tokens < 2 ^ 32
   pub inside : (k : ℕ) (t : Token) → slice_get tokens k ≡ Some t → (t.start ≤ t.end) × (t.end ≤ length bytes)

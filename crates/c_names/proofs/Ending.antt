@@ -4,14 +4,14 @@ use Rattle.std.specs.List.{last_or}
 use Rattle.type_table.specs.Types.{CType}
 use Rattle.tape_ops.specs.declared.op.Op.{Op}
 use Rattle.name_rules.specs.Spellings.{Spelling}
-use Rattle.name_rules.specs.Scopes.{TypeNamed, Names}
+use Rattle.name_rules.specs.Scopes.{Names}
 use Rattle.name_rules.specs.Pieces.{bare}
 use Rattle.name_rules.specs.Identifiers.{type_or_base}
 use Rattle.name_rules.specs.NameSteps.State.{State}
-use Rattle.name_rules.specs.NameSteps.Steps.{with_type, part_ended, bare_or_base, typed_by, auto_typed, name_declared, type_or}
+use Rattle.name_rules.specs.NameSteps.Steps.{with_type, part_ended, bare_or_base, typed_by, auto_typed, name_declared}
 use Rattle.name_rules.specs.ShapeSteps.State as shape_states
 use Rattle.name_rules.specs.ShapeSteps.Steps as shapes
-use Rattle.c_names.specs.Parts.{blamed, auto_declared, type_of_name, with_some_type}
+use Rattle.c_names.specs.Parts.{blamed, auto_declared}
 
 -- behind one op more, the shapes along the ops left are those along the tape from that op on
 pub shapes_on : (u : Spelling) (s : Names) (tape : List Op) (i : ℕ) (op : Op) (st after : shape_states.State)
@@ -45,13 +45,9 @@ pub auto_is : (u : Spelling) (token : ℕ) (o made : Option CType) (st : State) 
     name_declared u (auto_declared (type_or_base made) (blamed u token made (part_ended st))) ≡ auto_typed u token o st
 auto_is u token o made st is =
     ap (λ (m : Option CType). name_declared u (auto_declared (type_or_base m) (blamed u token m (part_ended st)))) is ∙
-    ap (λ (s : State). name_declared u (auto_declared (type_or_base (option_map bare o)) s)) (blamed_bare u token o (part_ended st)) ∙
+    ap (λ (s : State). name_declared u (auto_declared (type_or_base (option_map bare o)) s))
+    (blamed_bare u token o (part_ended st)) ∙
     ap (λ (t : CType). name_declared u (auto_declared t (blamed u token o (part_ended st)))) (bare_made o)
-
-ended_by : (o : Option TypeNamed) (st : State) →
-    with_some_type (type_of_name o) st ≡ with_type (type_or st.specifiers.type o) st
-ended_by None st = refl
-ended_by (Some it) st = refl
 
 -- the last of what a list shows
 

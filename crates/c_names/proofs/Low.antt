@@ -1,9 +1,8 @@
 -- The numbers of types that a state holds are those of its table: what is shown alike by the types of all tables that
--- this
--- one grows to, does not depend on numbers past it.
+-- this one grows to, does not depend on numbers past it.
 use Rattle.std.proofs.Common.{arith, ◌≡◌, ℕ, zero, suc, ◌+◌, slice_index_or, take, ◌<◌, ◌≤◌, nat_lt, List, [], ◌∷◌, ◌++◌, length, map, Option, Some, None, inl, inr, refl, sym, ◌∙◌, ap, Vec, Global, if◌then◌else◌}
 use Rattle.std.proofs.lemmas.Bool.{cases_lt, lt-ltb, le-ltb}
-use Rattle.type_table.specs.declared.row.Row.{Row}
+use Rattle.type_table.specs.declared.row.TypeRow.{TypeRow}
 use Rattle.type_table.specs.Types.{CType, base, void}
 use Rattle.type_table.specs.Rows.{type_of, AreBelow}
 use Rattle.name_state.specs.NameTypes.Known.{Knows, Grows, so_far_type, IsLow}
@@ -27,19 +26,19 @@ map_length f [] = refl
 map_length f (x ∷ xs) = ap suc (map_length f xs)
 
 -- the types of a table, and another type past it
-filled : List Row → CType → ℕ → CType
+filled : List TypeRow → CType → ℕ → CType
 filled rows other n = if nat_lt n (length rows) then type_of rows n else other
 
-knows_filled : (rows : List Row) (other : CType) → Knows (filled rows other) rows
+knows_filled : (rows : List TypeRow) (other : CType) → Knows (filled rows other) rows
 unfolding filled
 knows_filled rows other = λ n lt. rw (lt-ltb n (length rows) lt) refl
 
-past_filled : (rows : List Row) (other : CType) (n : ℕ) → length rows ≤ n → filled rows other n ≡ other
+past_filled : (rows : List TypeRow) (other : CType) (n : ℕ) → length rows ≤ n → filled rows other n ≡ other
 unfolding filled
 past_filled rows other n le = rw (le-ltb n (length rows) le) refl
 
 -- a number that shows one type by the types of every table grown from this one is a number of this table
-low_of : (rows : List Row) (n : ℕ) (made : CType) → ((t : ℕ → CType) → Knows t rows → t n ≡ made) → n < length rows
+low_of : (rows : List TypeRow) (n : ℕ) (made : CType) → ((t : ℕ → CType) → Knows t rows → t n ≡ made) → n < length rows
 low_of rows n made alike = elim (cases_lt n (length rows)) [
   | inl lt ↦ lt
   | inr past ↦ absurd (
@@ -58,7 +57,7 @@ other_types [] = []
 other_types (t ∷ ts) = ts
 
 -- numbers that show the same types by those of every table grown from this one are numbers of this table
-lows_of : (rows : List Row) (ns : List ℕ) (made : List CType) → ((t : ℕ → CType) → Knows t rows → map t ns ≡ made)
+lows_of : (rows : List TypeRow) (ns : List ℕ) (made : List CType) → ((t : ℕ → CType) → Knows t rows → map t ns ≡ made)
     → AreBelow (length rows) ns
 lows_of rows [] made alike = tt
 lows_of rows (n ∷ ns) made alike = (
@@ -68,14 +67,14 @@ lows_of rows (n ∷ ns) made alike = (
 )
 
 -- specifiers whose type is the same by the types of every table grown from this one hold a number of this table at most
-so_far_low_of : (rows : List Row) (s : SoFar) (made : CType)
+so_far_low_of : (rows : List TypeRow) (s : SoFar) (made : CType)
     → ((t : ℕ → CType) → Knows t rows → so_far_type t s ≡ made) → IsLow (length rows) s
 so_far_low_of rows so_fars.Base made alike = tt
 so_far_low_of rows so_fars.Void made alike = tt
 so_far_low_of rows (so_fars.Struct n) made alike = tt
 so_far_low_of rows (so_fars.Type ty) made alike = low_of rows ty made alike
 
-module _ (rows : List Row) (s : State) (is : IsShown rows s) where
+module _ (rows : List TypeRow) (s : State) (is : IsShown rows s) where
   pub so_far_low : IsLow (length rows) s.specifiers.so_far
   unfolding state_of
   so_far_low = so_far_low_of rows s.specifiers.so_far is.shown.specifiers.type
@@ -94,7 +93,8 @@ module _ (rows : List Row) (s : State) (is : IsShown rows s) where
   declared_low d rest there =
       low_of rows d.declared (steps.innermost_or steps.no_declaration is.shown.declarations).declared
       (λ t knows. ap (λ ds. (steps.innermost_or steps.no_declaration (map (declaration_of t) ds)).declared) (sym there)
-      ∙ ap (λ (x : steps.State). (steps.innermost_or steps.no_declaration x.declarations).declared) (is.alike t [] knows))
+      ∙ ap (λ (x : steps.State). (steps.innermost_or steps.no_declaration x.declarations).declared)
+      (is.alike t [] knows))
 
   pub params_low : (ns : Vec ℕ Global) (rest : List (Vec ℕ Global)) → s.finished ≡ ns ∷ rest
       → AreBelow (length rows) ns.items
@@ -126,14 +126,11 @@ taken (x ∷ tape) (suc at) op is lt =
     let e : suc at + 1 ≡ suc (at + 1) = omega arith in
     rw e (ap (λ ops. x ∷ ops) (taken tape at op is (omega arith)))
 
-pub knows_before : (old new : List Row) (t : ℕ → CType) → Grows old new → Knows t new → Knows t old
+pub knows_before : (old new : List TypeRow) (t : ℕ → CType) → Grows old new → Knows t new → Knows t old
 knows_before old new t grows knows = λ n lt. knows n (let l = grows.longer in omega arith) ∙ grows.keeps n lt
 
-pub grows_none : (rows : List Row) → Grows rows rows
-grows_none rows = record { keeps = λ n lt. refl; longer = omega arith }
-
 -- a table that grows from one that grows from a first grows from the first
-pub grows_twice : (a b c : List Row) → Grows a b → Grows b c → Grows a c
+pub grows_twice : (a b c : List TypeRow) → Grows a b → Grows b c → Grows a c
 grows_twice a b c one two = record {
   keeps = λ n lt. two.keeps n (let l = one.longer in omega arith) ∙ one.keeps n lt;
   longer = let l = one.longer in let m = two.longer in omega arith;
@@ -149,7 +146,7 @@ stepped t u tape at op old new is lt made =
     ap (λ p. state_of t p new) (taken tape at op is lt) ∙ ap (passed_on op) made
 
 -- a step leaves a state that is shown alike
-pub shown_after : (u : Spelling) (op : Op) (before behind : List Op) (old new : List Row) (s after : State)
+pub shown_after : (u : Spelling) (op : Op) (before behind : List Op) (old new : List TypeRow) (s after : State)
     → IsShown old s
     → Grows old new
     → ((t : ℕ → CType) → Knows t new → state_of t behind after ≡ step u (state_of t before s) op) → IsShown new after
@@ -161,7 +158,8 @@ shown_after u op before behind old new s after is grows steps = record {
 }
 
 -- what comes of a state that is shown alike, behind the same ops
-pub shown_at : (f : steps.State → steps.State) (passed : List Op) (old new : List Row) (s after : State) → IsShown old s
+pub shown_at : (f : steps.State → steps.State) (passed : List Op) (old new : List TypeRow) (s after : State)
+    → IsShown old s
     → Grows old new
     → ((t : ℕ → CType) → Knows t new → state_of t passed after ≡ f (state_of t passed s)) → IsShown new after
 unfolding state_of

@@ -22,7 +22,8 @@ number_behind (x ∷ all) it key new =
     let parts = none_parts (nat_eq x.key it.key) (number_in it.key all) new in
     by (nat_eq x.key key) (nat_eq it.key key)
     (λ one other.
-    let same : nat_eq x.key it.key ≡ true = eq-eqb x.key it.key (eqb-true x.key key one ∙ sym (eqb-true it.key key other)) in
+    let same : nat_eq x.key it.key ≡ true =
+    eq-eqb x.key it.key (eqb-true x.key key one ∙ sym (eqb-true it.key key other)) in
     let no : false ≡ true = sym parts.0 ∙ same in
     cc)
     (number_behind all it key parts.1)

@@ -58,7 +58,8 @@ module _ (t : ℕ → CType) where
       after ≡ declared_param u (Some it) number own (t ty)
       (with_faults (fault_where (is_typed_in (slice_get ids number)) (place u it.token) defined_twice) names) →
       with_names (map (old_of t) new) after ≡
-      old_declared u own it (t ty) (number_of_identifier (u.key it.name) (map (old_of t) ids)) (with_names (map (old_of t) ids) names)
+      old_declared u own it (t ty) (number_of_identifier (u.key it.name) (map (old_of t) ids))
+      (with_names (map (old_of t) ids) names)
   declared_is u own it ty ids new number names after found changed made =
       ap (λ (l : List Shown). with_names l after) (ap (map (old_of t)) changed ∙ changed_shown ids number ty) ∙
       ap (λ (s : Names). with_names (changed_at (map (old_of t) ids) number (typed_first (t ty))) s)
@@ -67,10 +68,13 @@ module _ (t : ℕ → CType) where
       ap (λ (o : Option ℕ). old_declared u own it (t ty) o (with_names (map (old_of t) ids) names))
       (found ∙ sym (number_shown ids (u.key it.name)))
 
-  pub undeclared_is : (u : Spelling) (own : Option Place) (it : Named) (ty : ℕ) (ids : List OldParameter) (names after : Names) →
-      None ≡ number_in (u.key it.name) ids → after ≡ with_faults (fault_where true (place u it.token) undeclared) names →
+  pub undeclared_is : (u : Spelling) (own : Option Place) (it : Named) (ty : ℕ) (ids : List OldParameter)
+      (names after : Names) →
+      None ≡ number_in (u.key it.name) ids
+      → after ≡ with_faults (fault_where true (place u it.token) undeclared) names →
       with_names (map (old_of t) ids) after ≡
-      old_declared u own it (t ty) (number_of_identifier (u.key it.name) (map (old_of t) ids)) (with_names (map (old_of t) ids) names)
+      old_declared u own it (t ty) (number_of_identifier (u.key it.name) (map (old_of t) ids))
+      (with_names (map (old_of t) ids) names)
   undeclared_is u own it ty ids names after found made =
       ap (λ (s : Names). with_names (map (old_of t) ids) s) made ∙
       ap (λ (o : Option ℕ). old_declared u own it (t ty) o (with_names (map (old_of t) ids) names))
@@ -95,7 +99,8 @@ module _ (t : ℕ → CType) where
       with_names (map (old_of t) new) names ≡ identified u token name (with_names (map (old_of t) ids) names)
   new_is u token name ids new names found made =
       ap (λ (l : List Shown). with_names l names)
-      (ap (map (old_of t)) made ∙ map_more (old_of t) ids (record { token = token; key = u.key name; ty = None } ∷ [])) ∙
+      (ap (map (old_of t)) made
+      ∙ map_more (old_of t) ids (record { token = token; key = u.key name; ty = None } ∷ [])) ∙
       ap (λ fs. with_names (map (old_of t) ids ++ record { token = token; key = u.key name; type = None } ∷ [])
       (record names { faults = fs })) (sym (append-nil names.faults)) ∙
       ap (λ (b : Bool). by_known b u token name (map (old_of t) ids) names)

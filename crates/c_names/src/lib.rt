@@ -13,7 +13,5 @@ mod run;
 mod specifier;
 mod stack;
 mod state;
-#[cfg(test)]
-mod tests;
 
 pub use run::{name_unit, resolve_names};

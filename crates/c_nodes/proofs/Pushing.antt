@@ -23,10 +23,13 @@ max_swap one other = grind arith
 max_join : (one rest next : ℕ) → max one (max rest next) ≡ max (max one rest) next
 max_join one rest next = grind arith
 
-module _ {A : Type 0} (all : List A → ℕ) (item : A → ℕ) (more : (x : A) (xs : List A) → all (x ∷ xs) ≡ max (item x) (all xs)) where
+module _ {A : Type 0} (all : List A → ℕ) (item : A → ℕ)
+    (more : (x : A) (xs : List A) → all (x ∷ xs) ≡ max (item x) (all xs)) where
   pushed : (xs : List A) (x : A) → all (xs ++ x ∷ []) ≡ max (all xs) (item x)
   pushed [] x = more x [] ∙ max_swap (item x) (all [])
-  pushed (first ∷ xs) x = more first (xs ++ x ∷ []) ∙ ap (max (item first)) (pushed xs x) ∙ max_join (item first) (all xs) (item x) ∙ ap (λ (n : ℕ). max n (item x)) (sym (more first xs))
+  pushed (first ∷ xs) x =
+      more first (xs ++ x ∷ []) ∙ ap (max (item first)) (pushed xs x) ∙ max_join (item first) (all xs) (item x)
+      ∙ ap (λ (n : ℕ). max n (item x)) (sym (more first xs))
 
 pub exprs_pushed : (es : List Expr) (e : Expr)
     → heights.of_exprs (es ++ e ∷ []) ≡ max (heights.of_exprs es) (expr_height (expr_of e))
@@ -46,19 +49,26 @@ struct_items_pushed xs x = pushed heights.of_struct_items heights.of_struct_item
 
 pub members_pushed : (xs : List (Listed MemDeclr)) (x : Listed MemDeclr)
     → heights.of_members (xs ++ x ∷ []) ≡ max (heights.of_members xs) (heights.of_member x.attrs.items x.item)
-members_pushed xs x = pushed heights.of_members (λ x. heights.of_member x.attrs.items x.item) (λ x xs. max_join (attrs_height x.attrs.items) (mem_declr_height (mem_declr_of x.item)) (heights.of_members xs)) xs x
+members_pushed xs x =
+    pushed heights.of_members (λ x. heights.of_member x.attrs.items x.item) (λ x xs. max_join
+    (attrs_height x.attrs.items) (mem_declr_height (mem_declr_of x.item)) (heights.of_members xs)) xs x
 
 pub enumerators_pushed : (xs : List Enumerator) (x : Enumerator)
-    → heights.of_enumerators (xs ++ x ∷ []) ≡ max (heights.of_enumerators xs) (heights.of_enumerator x.attrs.items x.value)
-enumerators_pushed xs x = pushed heights.of_enumerators (λ x. heights.of_enumerator x.attrs.items x.value) (λ x xs. refl) xs x
+    → heights.of_enumerators (xs ++ x ∷ [])
+    ≡ max (heights.of_enumerators xs) (heights.of_enumerator x.attrs.items x.value)
+enumerators_pushed xs x =
+    pushed heights.of_enumerators (λ x. heights.of_enumerator x.attrs.items x.value) (λ x xs. refl) xs x
 
 pub params_pushed : (xs : List Param) (x : Param)
-    → heights.of_params (xs ++ x ∷ []) ≡ max (heights.of_params xs) (heights.of_param x.specs.words.items x.declr x.attrs.items)
-params_pushed xs x = pushed heights.of_params (λ x. heights.of_param x.specs.words.items x.declr x.attrs.items) (λ x xs. refl) xs x
+    → heights.of_params (xs ++ x ∷ [])
+    ≡ max (heights.of_params xs) (heights.of_param x.specs.words.items x.declr x.attrs.items)
+params_pushed xs x =
+    pushed heights.of_params (λ x. heights.of_param x.specs.words.items x.declr x.attrs.items) (λ x xs. refl) xs x
 
 pub init_items_pushed : (xs : List InitItem) (x : InitItem)
     → heights.of_init_items (xs ++ x ∷ []) ≡ max (heights.of_init_items xs) (heights.of_init_item x.desigs.items x.init)
-init_items_pushed xs x = pushed heights.of_init_items (λ x. heights.of_init_item x.desigs.items x.init) (λ x xs. refl) xs x
+init_items_pushed xs x =
+    pushed heights.of_init_items (λ x. heights.of_init_item x.desigs.items x.init) (λ x xs. refl) xs x
 
 pub desigs_pushed : (xs : List Desig) (x : Desig)
     → heights.of_desigs (xs ++ x ∷ []) ≡ max (heights.of_desigs xs) (heights.of_desig x)
@@ -69,8 +79,11 @@ pub steps_pushed : (xs : List Desig) (x : Desig)
 steps_pushed xs x = pushed heights.of_steps heights.of_step (λ x xs. refl) xs x
 
 pub init_declrs_pushed : (xs : List (Listed InitDeclr)) (x : Listed InitDeclr)
-    → heights.of_init_declrs (xs ++ x ∷ []) ≡ max (heights.of_init_declrs xs) (heights.of_init_declr x.attrs.items x.item.declr x.item.label x.item.attrs.items x.item.init)
-init_declrs_pushed xs x = pushed heights.of_init_declrs (λ x. heights.of_init_declr x.attrs.items x.item.declr x.item.label x.item.attrs.items x.item.init) (λ x xs. refl) xs x
+    → heights.of_init_declrs (xs ++ x ∷ []) ≡ max (heights.of_init_declrs xs)
+    (heights.of_init_declr x.attrs.items x.item.declr x.item.label x.item.attrs.items x.item.init)
+init_declrs_pushed xs x =
+    pushed heights.of_init_declrs (λ x.
+    heights.of_init_declr x.attrs.items x.item.declr x.item.label x.item.attrs.items x.item.init) (λ x xs. refl) xs x
 
 pub block_items_pushed : (xs : List BlockItem) (x : BlockItem)
     → heights.of_block (xs ++ x ∷ []) ≡ max (heights.of_block xs) (heights.of_block_item x + 1)

@@ -12,6 +12,7 @@ use Rattle.c_ops.specs.Operations.{IsLevelled, is_assign, Entry, in_order}
 pub not_le : (a b : ℕ) → b < a → nat_le a b ≡ false
 not_le a b h = elim (leb_tells a b) [ inl t ↦ absurd (omega (arith, t.1)) | inr t ↦ t.0 ]
 
+-- the level of a binary operator is at most 10
 pub binary_most : (p : Punct) → binary_level p ≤ 10
 binary_most BarBar = omega arith
 binary_most AmpersandAmpersand = omega arith
@@ -33,36 +34,42 @@ binary_most Slash = omega arith
 binary_most Percent = omega arith
 binary_most _ = omega arith
 
+-- the level of an operator is at most 12
 pub level_most : (op : Operator) → operator_level op ≤ 12
 level_most comma = omega arith
 level_most (assign p) = omega arith
 level_most (cond middle colon) = omega arith
 level_most (binary p) = omega (arith, binary_most p)
 
+-- the level that an operator asks for on its right is at most 13
 pub right_most : (op : Operator) → right_level op ≤ 13
 right_most comma = omega arith
 right_most (assign p) = omega arith
 right_most (cond middle colon) = omega arith
 right_most (binary p) = omega (arith, binary_most p)
 
+-- the level that an operator asks for on its right is at least 1
 pub right_least : (op : Operator) → 1 ≤ right_level op
 right_least comma = omega arith
 right_least (assign p) = omega arith
 right_least (cond middle colon) = omega arith
 right_least (binary p) = omega arith
 
+-- the level that an operator other than an assignment asks for on its left is at most 13
 pub left_most : (op : Operator) → is_assign op ≡ false → left_level op ≤ 13
 left_most comma h = omega arith
 left_most (assign p) h = absurd cc
 left_most (cond middle colon) h = omega arith
 left_most (binary p) h = omega (arith, binary_most p)
 
+-- no operator asks for less on its left than it is itself
 pub level_left : (op : Operator) → operator_level op ≤ left_level op
 level_left comma = omega arith
 level_left (assign p) = omega arith
 level_left (cond middle colon) = omega arith
 level_left (binary p) = omega arith
 
+-- no operator asks for less on its right than it is itself
 pub level_right : (op : Operator) → operator_level op ≤ right_level op
 level_right comma = omega arith
 level_right (assign p) = omega arith
@@ -109,6 +116,7 @@ leaf_levelled (operation e op t f) h = absurd (omega (arith, level_most op))
 leaf_levelled (cast a b c d e) h = tt
 leaf_levelled _ h = tt
 
+-- an expression of level 13 at least is one operand, before the others of a list
 pub in_order-leaf : (e : Expr) (k : List Entry) → 13 ≤ expr_level e → in_order e k ≡ record { first = e; rest = k }
 in_order-leaf (operation e op t f) k h = absurd (omega (arith, level_most op))
 in_order-leaf (cast a b c d e) k h = refl

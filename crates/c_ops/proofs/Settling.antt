@@ -30,6 +30,7 @@ pub record Keeps (n : ℕ) (s : Stack) (e : Expr) (r : Settled) : Type 0 where
       → left_level next ≤ expr_level e → left_level next ≤ expr_level r.last
   pub low : expr_level e ≤ 12 → expr_level r.last ≤ 12
 
+-- joining what an operator of a level ends keeps the list, the levels of what waits, and the left side fit
 pub settle_keeps : (n : ℕ) (s : Stack) (e : Expr) → Keeps n s e (settle_of n s e)
 settle_keeps n bottom e = record {
   same = refl;
@@ -39,11 +40,14 @@ settle_keeps n bottom e = record {
   left = λ next a is ops h. h;
   low = λ h. h;
 }
-settle_keeps n (above s l) e = by_test (settle_keeps n s (operation l.tree l.operator l.token e)) (nat_le (right_level l.operator) n) refl
+settle_keeps n (above s l) e =
+    by_test (settle_keeps n s (operation l.tree l.operator l.token e)) (nat_le (right_level l.operator) n) refl
   where
-    by_test : Keeps n s (operation l.tree l.operator l.token e) (settle_of n s (operation l.tree l.operator l.token e)) →
+    by_test : Keeps n s (operation l.tree l.operator l.token e)
+        (settle_of n s (operation l.tree l.operator l.token e)) →
         (b : Bool) → nat_le (right_level l.operator) n ≡ b →
-        Keeps n (above s l) e (if b then settled (above s l) e else settle_of n s (operation l.tree l.operator l.token e))
+        Keeps n (above s l) e
+        (if b then settled (above s l) e else settle_of n s (operation l.tree l.operator l.token e))
     by_test all true is = record {
       same = refl;
       accepts = leb-true (right_level l.operator) n is;
@@ -62,7 +66,8 @@ settle_keeps n (above s l) e = by_test (settle_keeps n s (operation l.tree l.ope
     }
       where
         ends : (next : Operator) → operator_level next ≡ n → operator_level next < right_level l.operator
-        ends next same = elim (leb_tells (right_level l.operator) n) [ inl t ↦ absurd cc | inr t ↦ omega (arith, same, t.1) ]
+        ends next same =
+            elim (leb_tells (right_level l.operator) n) [ inl t ↦ absurd cc | inr t ↦ omega (arith, same, t.1) ]
 
 -- nothing waits below where all is joined
 pub settle_all : (s : Stack) (e : Expr) → (settle_of 0 s e).below ≡ bottom
@@ -79,4 +84,5 @@ accepts_leaf (above s l) e h = omega (arith, right_most l.operator)
 pub finished_levelled : (s : Stack) (e : Expr) → IsStack s → IsLevelled e → Accepts s (expr_level e)
     → IsLevelled (finished s e)
 finished_levelled bottom e i l a = l
-finished_levelled (above s l) e i lev a = finished_levelled s (operation l.tree l.operator l.token e) i.0 (i.1, lev, i.2, i.3, a) i.4
+finished_levelled (above s l) e i lev a =
+    finished_levelled s (operation l.tree l.operator l.token e) i.0 (i.1, lev, i.2, i.3, a) i.4

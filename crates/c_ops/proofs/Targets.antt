@@ -9,9 +9,11 @@ use Rattle.c_ops.specs.Lasts.{last_of, operator_before}
 use Rattle.c_ops.proofs.Levels.{not_le, level_most, in_order-leaf}
 use Rattle.c_ops.proofs.Settling.{settle-kept, settle-joins, settle_keeps}
 
+-- the list of a tree before two lists is that before the first, and then the second
 in_order-append : (e : Expr) (k m : List Entry) → in_order e (k ++ m) ≡ appended (in_order e k) m
 in_order-append (operation a op token b) k m =
-    ap (λ (o : Operations). in_order a (joined op token o)) (in_order-append b k m) ∙ in_order-append a (joined op token (in_order b k)) m
+    ap (λ (o : Operations). in_order a (joined op token o)) (in_order-append b k m)
+    ∙ in_order-append a (joined op token (in_order b k)) m
 in_order-append _ k m = refl
 
 -- a list behind what waits
@@ -38,6 +40,7 @@ record Ends (before : Option Operator) (o : Operations) (op : Option Operator) (
   operator : operator_before before o.rest ≡ op
   operand : last_of o.first o.rest ≡ e
 
+-- a list of a tree before an operator and others ends as those others do
 ends_tree : (e : Expr) (before : Option Operator) (op : Operator) (token : ℕ) (o : Operations) →
     Ends before (in_order e (joined op token o)) (operator_before (Some op) o.rest) (last_of o.first o.rest)
 ends_tree (operation a op2 token2 b) before op token o =
@@ -51,6 +54,7 @@ abbrev pub newest : Stack → Option Operator
 newest bottom = None
 newest (above s l) = Some l.operator
 
+-- a list behind what waits ends as the list does
 ends_behind : (s : Stack) (o : Operations)
     → Ends None (behind s o) (operator_before (newest s) o.rest) (last_of o.first o.rest)
 ends_behind bottom o = record { operator = refl; operand = refl }
@@ -63,15 +67,20 @@ abbrev or_else : Option ℕ → Option ℕ → Option ℕ
 or_else (Some n) other = Some n
 or_else None other = other
 
+-- the first bad assignment with one entry more is that before it, or else its own
 first_bad-append : (k : List Entry) (before : Option Operator) (e : Expr) (x : Entry) →
-    first_bad before e (k ++ x ∷ []) ≡ or_else (first_bad before e k) (if is_bad (operator_before before k) (last_of e k) x.operator then Some x.token else None)
+    first_bad before e (k ++ x ∷ []) ≡ or_else (first_bad before e k)
+    (if is_bad (operator_before before k) (last_of e k) x.operator then Some x.token else None)
 first_bad-append [] before e x = refl
-first_bad-append (y ∷ k) before e x = by_test (is_bad before e y.operator) (first_bad-append k (Some y.operator) y.operand x)
+first_bad-append (y ∷ k) before e x =
+    by_test (is_bad before e y.operator) (first_bad-append k (Some y.operator) y.operand x)
   where
     by_test : (b : Bool) →
-        first_bad (Some y.operator) y.operand (k ++ x ∷ []) ≡ or_else (first_bad (Some y.operator) y.operand k) (if is_bad (operator_before (Some y.operator) k) (last_of y.operand k) x.operator then Some x.token else None) →
+        first_bad (Some y.operator) y.operand (k ++ x ∷ []) ≡ or_else (first_bad (Some y.operator) y.operand k)
+        (if is_bad (operator_before (Some y.operator) k) (last_of y.operand k) x.operator then Some x.token else None) →
         (if b then Some y.token else first_bad (Some y.operator) y.operand (k ++ x ∷ []))
-        ≡ or_else (if b then Some y.token else first_bad (Some y.operator) y.operand k) (if is_bad (operator_before (Some y.operator) k) (last_of y.operand k) x.operator then Some x.token else None)
+        ≡ or_else (if b then Some y.token else first_bad (Some y.operator) y.operand k)
+        (if is_bad (operator_before (Some y.operator) k) (last_of y.operand k) x.operator then Some x.token else None)
     by_test true rest = refl
     by_test false rest = rest
 
@@ -85,24 +94,32 @@ target_is (above s l) e = by_operator l.operator refl
     joins h =
         rw (settle-joins 1 s l e h)
         (not_le 14 (expr_level (settle_of 1 s (operation l.tree l.operator l.token e)).last)
-        (let low = (settle_keeps 1 s (operation l.tree l.operator l.token e)).low (level_most l.operator) in omega (arith, low)))
+        (let low = (settle_keeps 1 s (operation l.tree l.operator l.token e)).low (level_most l.operator) in
+        omega (arith, low)))
 
     by_operator : (op : Operator) → l.operator ≡ op
         → nat_le 14 (expr_level (settle_of 1 (above s l) e).last) ≡ (begins_side (Some op) && nat_le 14 (expr_level e))
-    by_operator comma is = ap (λ (r : Settled). nat_le 14 (expr_level r.last)) (settle-kept 1 (above s l) e (omega (arith, ap right_level is)))
-    by_operator (assign p) is = ap (λ (r : Settled). nat_le 14 (expr_level r.last)) (settle-kept 1 (above s l) e (omega (arith, ap right_level is)))
+    by_operator comma is =
+        ap (λ (r : Settled). nat_le 14 (expr_level r.last))
+        (settle-kept 1 (above s l) e (omega (arith, ap right_level is)))
+    by_operator (assign p) is =
+        ap (λ (r : Settled). nat_le 14 (expr_level r.last))
+        (settle-kept 1 (above s l) e (omega (arith, ap right_level is)))
     by_operator (cond m c) is = joins (omega (arith, ap right_level is))
     by_operator (binary p) is = joins (omega (arith, ap right_level is))
 
 -- the first bad target, where one more operator comes
 pub bad_target-pushed : (s : Stack) (e : Expr) (op : Operator) (token : ℕ) (operand : Expr) → 13 ≤ expr_level e →
     bad_target (appended (in_order (finished s e) []) (record { operator = op; token = token; operand = operand } ∷ []))
-    ≡ or_else (bad_target (in_order (finished s e) [])) (if is_untargeted op (settle_of (operator_level op) s e).last then Some token else None)
+    ≡ or_else (bad_target (in_order (finished s e) []))
+    (if is_untargeted op (settle_of (operator_level op) s e).last then Some token else None)
 bad_target-pushed s e op token operand h =
     let o = in_order (finished s e) [] in
-    let same : o ≡ behind s (record { first = e; rest = [] }) = in_order-finished s e [] ∙ ap (behind s) (in_order-leaf e [] h) in
+    let same : o ≡ behind s (record { first = e; rest = [] }) =
+    in_order-finished s e [] ∙ ap (behind s) (in_order-leaf e [] h) in
     let ends = ends_behind s (record { first = e; rest = [] }) in
-    let op_is : operator_before None o.rest ≡ newest s = ap (λ (o : Operations). operator_before None o.rest) same ∙ ends.operator in
+    let op_is : operator_before None o.rest ≡ newest s =
+    ap (λ (o : Operations). operator_before None o.rest) same ∙ ends.operator in
     let e_is : last_of o.first o.rest ≡ e = ap (λ (o : Operations). last_of o.first o.rest) same ∙ ends.operand in
     first_bad-append o.rest None o.first (record { operator = op; token = token; operand = operand })
     ∙ rw (op_is, e_is) (ap (λ (b : Bool). or_else (bad_target o) (if b then Some token else None)) (by_operator op))

@@ -37,17 +37,24 @@ joins_first : (k : List Entry) (s : Stack) (l : Left) (e : Expr) → Follows k (
 joins_first [] s l e h = refl
 joins_first (x ∷ k) s l e h =
     let later : operator_level x.operator ≤ operator_level x.operator = omega arith in
-    ap (fed_with (λ s e. fed k s e) x) (settle-joins (operator_level x.operator) s l e (ends_right l.operator x.operator h.0 h.1))
+    ap (fed_with (λ s e. fed k s e) x)
+    (settle-joins (operator_level x.operator) s l e (ends_right l.operator x.operator h.0 h.1))
 
+-- a list that is read from left to right makes of a levelled tree's entries the tree again
 feeds : (e : Expr) (s : Stack) (k : List Entry) → IsLevelled e → Accepts s (expr_level e) → Follows k (expr_level e)
     → fed_list s (in_order e k) ≡ fed k s e
 feeds (operation a op token b) s k h accepts follows =
     let o = in_order b k in
-    feeds a s (joined op token o) h.0 (accepts_more s (operator_level op) (expr_level a) accepts (omega (arith, level_left op, h.3))) (h.2, h.3)
-    ∙ ap (fed_with (λ s e. fed o.rest s e) (record { operator = op; token = token; operand = o.first })) (settle-kept (operator_level op) s a accepts)
-    ∙ feeds b (above s (record { tree = a; operator = op; token = token })) k h.1 h.4 (follows_more k (operator_level op) (expr_level b) follows (omega (arith, level_right op, h.4)))
+    feeds a s (joined op token o) h.0
+    (accepts_more s (operator_level op) (expr_level a) accepts (omega (arith, level_left op, h.3))) (h.2, h.3)
+    ∙ ap (fed_with (λ s e. fed o.rest s e) (record { operator = op; token = token; operand = o.first }))
+    (settle-kept (operator_level op) s a accepts)
+    ∙ feeds b (above s (record { tree = a; operator = op; token = token })) k h.1 h.4
+    (follows_more k (operator_level op) (expr_level b) follows (omega (arith, level_right op, h.4)))
     ∙ joins_first k s (record { tree = a; operator = op; token = token }) b follows
 feeds _ s k h accepts follows = refl
 
 pub one_tree : (list : Operations) (e f : Expr) → IsTreeOf list e → IsTreeOf list f → e ≡ f
-one_tree list e f h i = sym (feeds e bottom [] h.levelled tt tt) ∙ ap (fed_list bottom) (h.same ∙ sym i.same) ∙ feeds f bottom [] i.levelled tt tt
+one_tree list e f h i =
+    sym (feeds e bottom [] h.levelled tt tt) ∙ ap (fed_list bottom) (h.same ∙ sym i.same)
+    ∙ feeds f bottom [] i.levelled tt tt

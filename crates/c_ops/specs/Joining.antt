@@ -33,7 +33,9 @@ pub record Settled : Type 0 where
 -- what is joined before an operator of a level comes
 abbrev pub settle_of : ℕ → Stack → Expr → Settled
 settle_of n bottom e = record { below = bottom; last = e }
-settle_of n (above s l) e = if nat_le (right_level l.operator) n then record { below = above s l; last = e } else settle_of n s (operation l.tree l.operator l.token e)
+settle_of n (above s l) e =
+    if nat_le (right_level l.operator) n then record { below = above s l; last = e }
+    else settle_of n s (operation l.tree l.operator l.token e)
 
 -- each left operand waits at an operator of the precedence table
 abbrev pub AreOperators : Stack → Type 0
@@ -43,4 +45,6 @@ AreOperators (above s l) = AreOperators s × IsOperator l.operator
 -- each waiting operand has the level that its operator asks for, and each operator that which the one below asks for
 abbrev pub IsStack : Stack → Type 0
 IsStack bottom = Unit {0}
-IsStack (above s l) = IsStack s × IsLevelled l.tree × IsOperator l.operator × (left_level l.operator ≤ expr_level l.tree) × Accepts s (operator_level l.operator)
+IsStack (above s l) =
+    IsStack s × IsLevelled l.tree × IsOperator l.operator × (left_level l.operator ≤ expr_level l.tree)
+    × Accepts s (operator_level l.operator)

@@ -29,7 +29,8 @@ in_order e k = record { first = e; rest = k }
 
 -- each operator stands between operands of the levels that the precedence table asks for
 abbrev pub IsLevelled : Expr → Type 0
-IsLevelled (operation e op token e2) = IsLevelled e × IsLevelled e2 × IsOperator op × (left_level op ≤ expr_level e) × (right_level op ≤ expr_level e2)
+IsLevelled (operation e op token e2) =
+    IsLevelled e × IsLevelled e2 × IsOperator op × (left_level op ≤ expr_level e) × (right_level op ≤ expr_level e2)
 IsLevelled _ = Unit {0}
 
 -- a tree of a list, by the precedence table
@@ -61,7 +62,8 @@ is_bad before operand op = is_assign op && not (begins_side before && nat_le 14 
 -- the token of the first such assignment behind an operand, and the operator before that
 abbrev pub first_bad : Option Operator → Expr → List Entry → Option ℕ
 first_bad before operand [] = None
-first_bad before operand (x ∷ k) = if is_bad before operand x.operator then Some x.token else first_bad (Some x.operator) x.operand k
+first_bad before operand (x ∷ k) =
+    if is_bad before operand x.operator then Some x.token else first_bad (Some x.operator) x.operand k
 
 -- the token of the first assignment of a list whose left side is no unary form, if any
 abbrev pub bad_target : Operations → Option ℕ

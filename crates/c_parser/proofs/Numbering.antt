@@ -12,7 +12,8 @@ use Rattle.c_parser.specs.Parsing.{is_atomic, numbered, opens, read_before}
 
 -- what a token is read as, by two tests
 pub read_is : (kind : TokenKind) (before : Bool)
-    → read_before kind before ≡ (if before then (if is_atomic kind then kinds.Keyword keywords.AtomicType else kind) else kind)
+    → read_before kind before
+    ≡ (if before then (if is_atomic kind then kinds.Keyword keywords.AtomicType else kind) else kind)
 read_is (kinds.Keyword keywords.Atomic) true = refl
 read_is (kinds.Keyword keywords.Atomic) false = refl
 read_is kind true = refl
@@ -35,16 +36,22 @@ opens_none (t ∷ tokens) (suc n) h = opens_none tokens n (omega (arith, h))
 -- one token more: the tokens up to it, numbered, are those before it and it, read by whether `(` comes next
 numbered_on : (first : ℕ) (tokens : List Token) (n at : ℕ) (kind : TokenKind)
     → option_map (λ token. token.kind) (slice_get tokens n) ≡ Some kind → at ≡ first + n →
-    take (suc n) (numbered first tokens) ≡ take n (numbered first tokens) ++ record { kind = read_before kind (opens (drop (suc n) tokens)); at = at } ∷ []
+    take (suc n) (numbered first tokens) ≡ take n (numbered first tokens)
+    ++ record { kind = read_before kind (opens (drop (suc n) tokens)); at = at } ∷ []
 numbered_on first [] n at kind is place = absurd cc
-numbered_on first (t ∷ tokens) zero at kind is place = let same : t.kind ≡ kind = cc in let here : at ≡ first = omega arith in rw (same, here) refl
+numbered_on first (t ∷ tokens) zero at kind is place =
+    let same : t.kind ≡ kind = cc in
+    let here : at ≡ first = omega arith in
+    rw (same, here) refl
 numbered_on first (t ∷ tokens) (suc n) at kind is place =
-    ap (λ (rest : List Lexeme). record { kind = read_before t.kind (opens tokens); at = first } ∷ rest) (numbered_on (suc first) tokens n at kind is (omega arith))
+    ap (λ (rest : List Lexeme). record { kind = read_before t.kind (opens tokens); at = first } ∷ rest)
+    (numbered_on (suc first) tokens n at kind is (omega arith))
 
 -- one token more
 pub lexemes_on : (tokens : List Token) (n : ℕ) (kind : TokenKind)
     → option_map (λ token. token.kind) (slice_get tokens n) ≡ Some kind →
-    take (n + 1) (numbered 0 tokens) ≡ take n (numbered 0 tokens) ++ record { kind = read_before kind (opens (drop (n + 1) tokens)); at = n } ∷ []
+    take (n + 1) (numbered 0 tokens) ≡ take n (numbered 0 tokens)
+    ++ record { kind = read_before kind (opens (drop (n + 1) tokens)); at = n } ∷ []
 lexemes_on tokens n kind is = rw add-one (numbered_on 0 tokens n n kind is (omega arith))
 
 -- as many numbered tokens as there are, or more, are all of them
@@ -54,7 +61,8 @@ all_from first [] zero h = refl
 all_from first [] (suc n) h = refl
 all_from first (t ∷ tokens) zero h = absurd (omega (arith, h))
 all_from first (t ∷ tokens) (suc n) h =
-    ap (λ (rest : List Lexeme). record { kind = read_before t.kind (opens tokens); at = first } ∷ rest) (all_from (suc first) tokens n (omega (arith, h)))
+    ap (λ (rest : List Lexeme). record { kind = read_before t.kind (opens tokens); at = first } ∷ rest)
+    (all_from (suc first) tokens n (omega (arith, h)))
 
 -- all tokens
 pub all_lexemes : (tokens : List Token) (n : ℕ) → length tokens ≤ n → take n (numbered 0 tokens) ≡ numbered 0 tokens
@@ -64,7 +72,9 @@ all_lexemes tokens n h = all_from 0 tokens n h
 place_of : (first : ℕ) (tokens : List Token) (n : ℕ) (t : Lexeme) → slice_get (numbered first tokens) n ≡ Some t
     → t.at ≡ first + n
 place_of first [] n t is = cc
-place_of first (token ∷ tokens) zero t is = let same : record { kind = read_before token.kind (opens tokens); at = first } ≡ t = cc in rw (← same) (omega arith)
+place_of first (token ∷ tokens) zero t is =
+    let same : record { kind = read_before token.kind (opens tokens); at = first } ≡ t = cc in
+    rw (← same) (omega arith)
 place_of first (token ∷ tokens) (suc n) t is = place_of (suc first) tokens n t is ∙ omega arith
 
 -- each token has the number of its place

@@ -28,18 +28,23 @@ dropped : (xs : List Node) (i : ℕ) (x : Node) → i < length xs → x ≡ slic
     → op_of x ∷ map op_of (drop (i + 1) xs) ≡ map op_of (drop i xs)
 dropped [] i x lt is = absurd (omega arith)
 dropped (y ∷ xs) zero x lt is = ap (λ (z : Node). op_of z ∷ map op_of xs) is
-dropped (y ∷ xs) (suc i) x lt is = let e : suc i + 1 ≡ suc (i + 1) = omega arith in rw e (dropped xs i x (omega arith) is)
+dropped (y ∷ xs) (suc i) x lt is =
+    let e : suc i + 1 ≡ suc (i + 1) = omega arith in
+    rw e (dropped xs i x (omega arith) is)
 
 -- the op of one node more
 pub mapped_on : (xs : List Node) (i : ℕ) (x : Node) (ys : List Op) → i < length xs → x ≡ slice_index_or xs i x
     → (ys ++ op_of x ∷ []) ++ map op_of (drop (i + 1) xs) ≡ ys ++ map op_of (drop i xs)
 mapped_on xs i x ys lt is =
-    append_assoc ys (op_of x ∷ []) (map op_of (drop (i + 1) xs)) ∙ ap (λ (zs : List Op). ys ++ zs) (dropped xs i x lt is)
+    append_assoc ys (op_of x ∷ []) (map op_of (drop (i + 1) xs))
+    ∙ ap (λ (zs : List Op). ys ++ zs) (dropped xs i x lt is)
 
 -- the tape of items and one more
 tape_more : (xs : List Item) (x : Item) → tape_of (xs ++ x ∷ []) ≡ tape_of xs ++ item_tape x
 tape_more [] x = append-nil (item_tape x)
-tape_more (y ∷ xs) x = ap (λ (ops : List Op). item_tape y ++ ops) (tape_more xs x) ∙ sym (append_assoc (item_tape y) (tape_of xs) (item_tape x))
+tape_more (y ∷ xs) x =
+    ap (λ (ops : List Op). item_tape y ++ ops) (tape_more xs x)
+    ∙ sym (append_assoc (item_tape y) (tape_of xs) (item_tape x))
 
 -- what was read, with its tape in the place of its trees
 abbrev pub taped : Read (List Item) → Read (List Op)
@@ -50,7 +55,8 @@ taped (Err e) = Err e
 pub tape_takes : (depth room : ℕ) → TakesToken (repeated_turn no_end (item_with (knot depth) room))
     → TakesToken (tape_turn depth room)
 unfolding and_then
-tape_takes depth room takes ops s ts x is = by_test (no_end (kind_at ts)) refl (item_with (knot depth) room s ts) refl is
+tape_takes depth room takes ops s ts x is =
+    by_test (no_end (kind_at ts)) refl (item_with (knot depth) room s ts) refl is
   where
     by_test : (b : Bool) → no_end (kind_at ts) ≡ b → (r : Read Item) → item_with (knot depth) room s ts ≡ r →
         (if b then Some (and_then r (λ x. ends (ops ++ item_tape x.tree) x.scopes x.rest)) else None) ≡ Some (Ok x)
@@ -58,9 +64,12 @@ tape_takes depth room takes ops s ts x is = by_test (no_end (kind_at ts)) refl (
     by_test false test r read is = absurd cc
     by_test true test (Err e) read is = absurd cc
     by_test true test (Ok y) read is =
-        let same : ◌≡◌ {A = Found (List Op)} (record { tree = ops ++ item_tape y.tree; scopes = y.scopes; rest = y.rest }) x = cc in
-        let one : repeated_turn no_end (item_with (knot depth) room) [] s ts ≡ Some (Ok (record { tree = y.tree ∷ []; scopes = y.scopes; rest = y.rest })) = rw (test, read) refl in
-        subst (λ (z : Found (List Op)). length z.rest < length ts) same (takes [] s ts (record { tree = y.tree ∷ []; scopes = y.scopes; rest = y.rest }) one)
+        let same : ◌≡◌ {A = Found (List Op)}
+        (record { tree = ops ++ item_tape y.tree; scopes = y.scopes; rest = y.rest }) x = cc in
+        let one : repeated_turn no_end (item_with (knot depth) room) [] s ts
+        ≡ Some (Ok (record { tree = y.tree ∷ []; scopes = y.scopes; rest = y.rest })) = rw (test, read) refl in
+        subst (λ (z : Found (List Op)). length z.rest < length ts) same
+        (takes [] s ts (record { tree = y.tree ∷ []; scopes = y.scopes; rest = y.rest }) one)
 
 module _ (depth room : ℕ) where
   abbrev trees : Turn (List Item)
@@ -70,9 +79,11 @@ module _ (depth room : ℕ) where
       turns (tape_turn depth room) n (tape_of xs) s ts ≡ taped (turns trees n xs s ts)
   unfolding turns and_then
   taped_turns zero xs s ts = refl
-  taped_turns (suc n) xs s ts = by_test (λ xs s ts. taped_turns n xs s ts) (no_end (kind_at ts)) (item_with (knot depth) room s ts)
+  taped_turns (suc n) xs s ts =
+      by_test (λ xs s ts. taped_turns n xs s ts) (no_end (kind_at ts)) (item_with (knot depth) room s ts)
     where
-      by_test : ((xs : List Item) (s : HeldScopes) (ts : List Lexeme) → turns (tape_turn depth room) n (tape_of xs) s ts ≡ taped (turns trees n xs s ts)) →
+      by_test : ((xs : List Item) (s : HeldScopes) (ts : List Lexeme)
+          → turns (tape_turn depth room) n (tape_of xs) s ts ≡ taped (turns trees n xs s ts)) →
           (b : Bool) (r : Read Item) →
           (elim (if b then Some (and_then r (λ x. ends (tape_of xs ++ item_tape x.tree) x.scopes x.rest)) else None) [
             | None ↦ ends (tape_of xs) s ts
@@ -99,16 +110,21 @@ taped_alone wide items (t ∷ ts) = refl
 -- a unit that is read
 pub taped_unit : (wide : Bool) (all : List Lexeme) → tape_at wide all ≡ taped (unit_at wide all)
 unfolding tape_at unit_at and_then
-taped_unit wide all = rw (taped_run most (most - 1) (file_scope wide) all) (by_items (items_with (knot most) (most - 1) (file_scope wide) all))
+taped_unit wide all =
+    rw (taped_run most (most - 1) (file_scope wide) all)
+    (by_items (items_with (knot most) (most - 1) (file_scope wide) all))
   where
     by_end : (x : Found (List Item)) (last : Read ℕ) →
-        and_then last (λ last. tape_alone wide (tape_of x.tree) last.rest) ≡ taped (and_then last (λ last. alone wide x.tree last.rest))
+        and_then last (λ last. tape_alone wide (tape_of x.tree) last.rest)
+        ≡ taped (and_then last (λ last. alone wide x.tree last.rest))
     by_end x (Err e) = refl
     by_end x (Ok last) = taped_alone wide x.tree last.rest
 
     by_items : (r : Read (List Item)) →
-        and_then (taped r) (λ ops. and_then (token_at is_end ops.scopes ops.rest) (λ last. tape_alone wide ops.tree last.rest))
-        ≡ taped (and_then r (λ items. and_then (token_at is_end items.scopes items.rest) (λ last. alone wide items.tree last.rest)))
+        and_then (taped r)
+        (λ ops. and_then (token_at is_end ops.scopes ops.rest) (λ last. tape_alone wide ops.tree last.rest))
+        ≡ taped (and_then r (λ items.
+        and_then (token_at is_end items.scopes items.rest) (λ last. alone wide items.tree last.rest)))
     by_items (Err e) = refl
     by_items (Ok x) = by_end x (token_at is_end x.scopes x.rest)
 
@@ -117,8 +133,13 @@ pub whole : (wide : Bool) (read : Read (List Item)) (ops : List Op) → taped re
     (items : List Item) × (read ≡ Ok (unit_found wide items)) × (ops ≡ tape_of items)
 whole wide (Err e) ops is = absurd cc
 whole wide (Ok x) ops is =
-    let same : ◌≡◌ {A = Found (List Op)} (record { tree = tape_of x.tree; scopes = x.scopes; rest = x.rest }) (tape_found wide ops) = cc in
-    (x.tree, ap (λ (z : Found (List Op)). let f : Found (List Item) = record { tree = x.tree; scopes = z.scopes; rest = z.rest } in let r : Read (List Item) = Ok f in r) same, sym (ap (λ (z : Found (List Op)). z.tree) same))
+    let same : ◌≡◌ {A = Found (List Op)} (record { tree = tape_of x.tree; scopes = x.scopes; rest = x.rest })
+    (tape_found wide ops) = cc in (
+      x.tree,
+      ap (λ (z : Found (List Op)). let f : Found (List Item) =
+          record { tree = x.tree; scopes = z.scopes; rest = z.rest } in let r : Read (List Item) = Ok f in r) same,
+      sym (ap (λ (z : Found (List Op)). z.tree) same),
+    )
 
 -- and where it was refused, so were they
 pub refused_alike : (read : Read (List Item)) (e : Refusal) → taped read ≡ Err e → read ≡ Err e
@@ -128,5 +149,6 @@ refused_alike (Ok x) e is = absurd cc
 -- an error of the reader of tapes is one of the reader of trees
 pub fails_alike : (wide : Bool) (error : ReadError) (all : List Lexeme) → Fails error (tape_at wide all)
     → Fails error (unit_at wide all)
-fails_alike wide (errors.Fault fault token) all is = refused_alike (unit_at wide all) (fault, token) (sym (taped_unit wide all) ∙ is)
+fails_alike wide (errors.Fault fault token) all is =
+    refused_alike (unit_at wide all) (fault, token) (sym (taped_unit wide all) ∙ is)
 fails_alike wide errors.NoMemory all is = tt

@@ -7,10 +7,9 @@ use Rattle.c_tree.specs.Unit.{Item}
 use Rattle.c_units.specs.Units.{IsWellFormed}
 use Rattle.c_units.specs.FirstBad.{IsFirstBad}
 use Rattle.refusal_rules.specs.Allowed.{syntax, too_deep, BeginsUnitOfAnyHeight, IsAllowed}
-use Rattle.c_reading.specs.declared.kinds.Fault.{Fault}
-use Rattle.c_reading.specs.declared.kinds.Fault.TheVariants.{Unexpected, TooDeep, Redeclared, BadMix, BadTarget}
-use Rattle.c_parser.specs.declared.parsing.ParseFault.{ParseFault}
-use Rattle.c_parser.specs.declared.parsing.ParseFault.TheVariants as faults
+use Rattle.c_reading.specs.declared.kinds.FaultKind.TheVariants.{Unexpected, TooDeep, Redeclared, BadMix, BadTarget}
+use Rattle.reader_base.specs.declared.fault.ReadError.{ReadError}
+use Rattle.reader_base.specs.declared.fault.ReadError.TheVariants as errors
 use Rattle.c_parser.specs.Parsing.{opens, read_before, lexemes_of}
 
 -- the kinds of tokens as the readers see them
@@ -22,40 +21,27 @@ kinds_in (t ∷ ts) = read_before t.kind (opens ts) ∷ kinds_in ts
 abbrev pub kinds_of : Lexed → List TokenKind
 kinds_of lexed = kinds_in lexed.tokens
 
--- the fault that a reader of lists finds at a token
-abbrev pub fault_named : Fault → ℕ → ParseFault
-fault_named Unexpected token = faults.Syntax token
-fault_named TooDeep token = faults.TooDeep token
-fault_named Redeclared token = faults.Redeclared token
-fault_named BadMix token = faults.BadMix token
-fault_named BadTarget token = faults.BadTarget token
-
 -- the token that is refused; want of memory names none
-abbrev pub token_of : ParseFault → ℕ
-token_of (faults.Syntax token) = token
-token_of (faults.TooDeep token) = token
-token_of (faults.Redeclared token) = token
-token_of (faults.BadMix token) = token
-token_of (faults.BadTarget token) = token
-token_of faults.NoMemory = 0
+abbrev pub token_of : ReadError → ℕ
+token_of (errors.Fault rule token) = token
+token_of errors.NoMemory = 0
 
 -- the height alone is what is wrong
-abbrev pub is_for_height : ParseFault → Bool
-is_for_height (faults.Syntax token) = false
-is_for_height (faults.TooDeep token) = true
-is_for_height (faults.Redeclared token) = false
-is_for_height (faults.BadMix token) = false
-is_for_height (faults.BadTarget token) = false
-is_for_height faults.NoMemory = false
+abbrev pub is_for_height : ReadError → Bool
+is_for_height (errors.Fault Unexpected token) = false
+is_for_height (errors.Fault TooDeep token) = true
+is_for_height (errors.Fault Redeclared token) = false
+is_for_height (errors.Fault BadMix token) = false
+is_for_height (errors.Fault BadTarget token) = false
+is_for_height errors.NoMemory = false
 
 -- Why these tokens are refused: they are those of no well-formed unit, the token is the first up to which none begins
--- so, and
--- the code is one that may be answered there. Where the fault is not the height, no unit of any height begins so
--- either.
-pub record IsUnitRefusal (tokens : Lexed) (fault : ParseFault) : Type 0 where
+-- so, and the code is one that may be answered there. Where the fault is not the height, no unit of any height begins
+-- so either.
+pub record IsUnitRefusal (tokens : Lexed) (fault : ReadError) : Type 0 where
   pub none : (items : List Item) → IsWellFormed tokens.wide (lexemes_of tokens) items → ⊥
   pub first : IsFirstBad tokens.wide (kinds_of tokens) (token_of fault)
   pub height : is_for_height fault ≡ false
       → ¬ BeginsUnitOfAnyHeight tokens.wide (take (token_of fault + 1) (kinds_of tokens))
-  pub allowed : (token : ℕ) → fault ≡ faults.Syntax token → IsAllowed tokens.wide (kinds_of tokens) token syntax
-  pub deep : (token : ℕ) → fault ≡ faults.TooDeep token → IsAllowed tokens.wide (kinds_of tokens) token too_deep
+  pub allowed : (token : ℕ) → fault ≡ errors.Fault Unexpected token → IsAllowed tokens.wide (kinds_of tokens) token syntax
+  pub deep : (token : ℕ) → fault ≡ errors.Fault TooDeep token → IsAllowed tokens.wide (kinds_of tokens) token too_deep

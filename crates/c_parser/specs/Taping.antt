@@ -7,7 +7,7 @@ use Rattle.c_tree.specs.Unit.{Item}
 use Rattle.c_tape.specs.Tape.{item_tape, tape_of}
 use Rattle.c_units.specs.HeldScopes.{file_scope}
 use Rattle.c_units.specs.Units.{IsWellFormed}
-use Rattle.c_reading.specs.declared.kinds.Fault.TheVariants.{Unexpected}
+use Rattle.c_reading.specs.declared.kinds.FaultKind.TheVariants.{Unexpected}
 use Rattle.c_reading.specs.Items.{item_with}
 use Rattle.c_reading.specs.Knot.{knot, most}
 use Rattle.c_reading.specs.Reading.{Found, Read, Reader, Turn, ◌>>=◌, ends, refuses, token_at, kind_at, run}
@@ -18,7 +18,8 @@ use Rattle.c_parser.specs.Parsing.{lexemes_of}
 -- an item more, behind the ops of those before it
 abbrev pub tape_turn : ℕ → ℕ → Turn (List Op)
 tape_turn depth room ops s ts =
-    if no_end (kind_at ts) then Some (item_with (knot depth) room s ts >>= λ x. ends (ops ++ item_tape x.tree) x.scopes x.rest) else None
+    if no_end (kind_at ts)
+    then Some (item_with (knot depth) room s ts >>= λ x. ends (ops ++ item_tape x.tree) x.scopes x.rest) else None
 
 -- the ops of the items of a unit, up to the end
 unfoldable pub tapes_at : ℕ → ℕ → Reader (List Op)

@@ -6,7 +6,7 @@ ghost use Rattle.reader_base.specs.Lent.{ReadsAsked, asked_at};
 use decl_forms::init_forms::init_list;
 use declr_forms::{declarator, type_name};
 use expr_rows::expr;
-use reader_base::{Answer, Ask, Place, ReadError};
+use reader_base::{Answer, Ask, Cursor, ReadError};
 use spec_forms::specifiers;
 use stmt_forms::{block, statement};
 
@@ -16,29 +16,29 @@ use stmt_forms::{block, statement};
 /// the number, as that of a unit is, no reader of number 0 is asked; it answers want of memory.
 #[cycle(knot)]
 #[tactic(auto, unfolding(c_reading::specs::Knot::knot))]
-pub(crate) fn read<'a>(ask: Ask, place: &mut Place<'a>, depth: u32) -> Result<Answer, ReadError>
-    ensures { ReadsAsked place.old place.new result (asked_at depth ask) }
+pub(crate) fn read<'a>(ask: Ask, cursor: &mut Cursor<'a>, depth: u32) -> Result<Answer, ReadError>
+    ensures { ReadsAsked cursor.old cursor.new result (asked_at depth ask) }
 {
     if depth == 0 {
         return Err(ReadError::NoMemory);
     }
     let below = depth - 1;
-    let inner = |ask: Ask, place: &mut Place|
-        ensures { ReadsAsked place.old place.new result (asked_at below ask) }
-    { read(ask, place, below) };
+    let inner = |ask: Ask, cursor: &mut Cursor|
+        ensures { ReadsAsked cursor.old cursor.new result (asked_at below ask) }
+    { read(ask, cursor, below) };
     match ask {
         Ask::Expr(reach, begun, room) => {
-            Ok(Answer::Expr(expr(&inner, reach, begun, room, place, below)?))
+            Ok(Answer::Expr(expr(&inner, reach, begun, room, cursor, below)?))
         }
-        Ask::TypeName(room) => Ok(Answer::TypeName(type_name(&inner, room, place, below)?)),
+        Ask::TypeName(room) => Ok(Answer::TypeName(type_name(&inner, room, cursor, below)?)),
         Ask::Specs(role, known, room) => {
-            Ok(Answer::Specs(specifiers(&inner, role, known, room, place, below)?))
+            Ok(Answer::Specs(specifiers(&inner, role, known, room, cursor, below)?))
         }
         Ask::Declr(mode, wanted, flag, room) => {
-            Ok(Answer::Declr(declarator(&inner, mode, wanted, flag, room, place, below)?))
+            Ok(Answer::Declr(declarator(&inner, mode, wanted, flag, room, cursor, below)?))
         }
-        Ask::InitList(room) => Ok(Answer::InitList(init_list(&inner, room, place, below)?)),
-        Ask::Block(room) => Ok(Answer::Block(block(&inner, room, place, below)?)),
-        Ask::Stmt(room) => Ok(Answer::Stmt(statement(&inner, room, place, below)?)),
+        Ask::InitList(room) => Ok(Answer::InitList(init_list(&inner, room, cursor, below)?)),
+        Ask::Block(room) => Ok(Answer::Block(block(&inner, room, cursor, below)?)),
+        Ask::Stmt(room) => Ok(Answer::Stmt(statement(&inner, room, cursor, below)?)),
     }
 }

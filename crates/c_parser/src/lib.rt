@@ -10,4 +10,6 @@ mod parsing;
 mod taping;
 pub mod unit_forms;
 
-pub use parsing::{ParseFault, parse, parse_tape};
+pub use c_reading::FaultKind;
+pub use parsing::{parse, parse_tape};
+pub use reader_base::ReadError;

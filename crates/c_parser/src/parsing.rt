@@ -6,46 +6,28 @@ ghost use Rattle.c_units.specs.Units.{IsWellFormed};
 ghost use Rattle.c_reading.specs.Knot.{unit_at};
 ghost use Rattle.reader_base.specs.Gives.{Fails, Gives};
 ghost use Rattle.reader_base.specs.Lent.{ReadsAsked, asked_at};
+ghost use Rattle.reader_base.specs.declared.fault.ReadError.{ReadError};
 ghost use Rattle.reader_base.specs.declared.fault.ReadError.TheVariants as errors;
-ghost use Rattle.c_parser.specs.declared.parsing.ParseFault.{ParseFault};
-ghost use Rattle.c_parser.specs.declared.parsing.ParseFault.TheVariants as faults;
 ghost use Rattle.c_parser.specs.Parsing.{is_atomic, opens, read_before, lexemes_of};
 ghost use Rattle.c_parser.specs.Taping.{IsTapeOf};
 ghost use Rattle.c_parser.specs.Whole.{unit_found};
-ghost use Rattle.c_parser.specs.Refusing.{fault_named, IsUnitRefusal};
+ghost use Rattle.c_parser.specs.Refusing.{IsUnitRefusal};
 
 use crate::knot::read;
 use crate::taping::unit_tape;
 use crate::unit_forms::items;
 use c_lexer::Tokens;
-use c_reading::{Fault, unit_is_well_formed, well_formed_is_read};
+use c_reading::{FaultKind, unit_is_well_formed, well_formed_is_read};
 use c_syntax::Unit;
 use c_tree::Lexeme;
 use c_words::{Keyword, TokenKind};
 use depth_laws::only_the_height;
-use held_scopes::Scopes;
+use held_scopes::TypedefScopes;
 use qual_base::{NoMemory, Numbered, TokenId};
-use reader_base::{Ask, Place, ReadError, end, is_open_paren, refused};
+use reader_base::{Ask, Cursor, ReadError, end, is_open_paren, refused};
 use std::alloc::Global;
 use tape_ops::Op;
 use unit_places::{height_alone, place_is_first, syntax_is_allowed};
-
-/// Why tokens are those of no well-formed unit, with the token that is refused.
-#[derive(Clone, Copy, PartialEq, Eq, Debug)]
-pub enum ParseFault {
-    /// No form of the grammar goes on with the token.
-    Syntax(TokenId),
-    /// The tree would be over 500 high.
-    TooDeep(TokenId),
-    /// The name has another kind in its scope already (C99, 6.2.1 and 6.2.3).
-    Redeclared(TokenId),
-    /// No mix of specifiers goes on with the word (C99, 6.7.1 and 6.7.2).
-    BadMix(TokenId),
-    /// The left side of the assignment is no unary form (C99, 6.5.16).
-    BadTarget(TokenId),
-    /// There was not enough memory.
-    NoMemory,
-}
 
 /// The number of the readers of a unit, and the greatest height of its tree.
 const MOST: u32 = 500;
@@ -103,51 +85,27 @@ fn lexemes(alloc: Global, tokens: &Tokens) -> Result<Vec<Lexeme>, NoMemory>
 fn unit(alloc: Global, wide: bool, all: &[Lexeme]) -> Result<Unit, ReadError>
     ensures { Gives (λ x. unit_found wide (items_of x)) result (unit_at wide all.now) }
 {
-    let scopes = Scopes::new(alloc, wide)?;
-    let mut place = Place {
+    let scopes = TypedefScopes::new(alloc, wide)?;
+    let mut cursor = Cursor {
         alloc,
         rest: all,
         scopes,
     };
-    let inner = |ask: Ask, place: &mut Place|
-        ensures { ReadsAsked place.old place.new result (asked_at 500 ask) }
-    { read(ask, place, MOST) };
-    let found = items(&inner, 499, &mut place, MOST)?;
-    end(&mut place)?;
-    if !place.rest.is_empty() {
-        return Err(refused(Fault::Unexpected, place.rest));
+    let inner = |ask: Ask, cursor: &mut Cursor|
+        ensures { ReadsAsked cursor.old cursor.new result (asked_at 500 ask) }
+    { read(ask, cursor, MOST) };
+    let found = items(&inner, 499, &mut cursor, MOST)?;
+    end(&mut cursor)?;
+    if !cursor.rest.is_empty() {
+        return Err(refused(FaultKind::Unexpected, cursor.rest));
     }
     Ok(Unit { items: found })
 }
 
-/// What is wrong at the token.
-fn fault_at(fault: Fault, token: TokenId) -> ParseFault
-    ensures { result ≡ fault_named fault token }
-{
-    match fault {
-        Fault::Unexpected => ParseFault::Syntax(token),
-        Fault::TooDeep => ParseFault::TooDeep(token),
-        Fault::Redeclared => ParseFault::Redeclared(token),
-        Fault::BadMix => ParseFault::BadMix(token),
-        Fault::BadTarget => ParseFault::BadTarget(token),
-    }
-}
-
-/// Why no unit was read.
-fn fault_of(error: ReadError) -> ParseFault
-    ensures { result ≢ faults.NoMemory →
-        (fault : Fault) × (token : ℕ) × (error ≡ errors.Fault fault token) × (result ≡ fault_named fault token) }
-{
-    match error {
-        ReadError::Fault(fault, token) => fault_at(fault, token),
-        ReadError::NoMemory => ParseFault::NoMemory,
-    }
-}
-
 /// Why the readers of a unit refused these tokens.
-fn refusal(tokens: &Tokens, error: ReadError) -> ParseFault
+fn refusal(tokens: &Tokens, error: ReadError) -> ReadError
     requires { Fails error (unit_at tokens.now.wide (lexemes_of tokens.now)) }
-    ensures { result ≢ faults.NoMemory → IsUnitRefusal tokens.now result }
+    ensures { result ≢ errors.NoMemory → IsUnitRefusal tokens.now result }
 {
     well_formed_is_read();
     place_is_first();
@@ -155,24 +113,26 @@ fn refusal(tokens: &Tokens, error: ReadError) -> ParseFault
     syntax_is_allowed();
     only_the_height();
     tokens.is_ended();
-    fault_of(error)
+    error
 }
 
 /// The one well-formed unit that has these tokens, and else the first token up to which no such unit begins so.
 ///
-/// Time and memory are linear in the tokens. Trees above a height of 500 are refused, so the recursion is bounded. That a
-/// refusal for the syntax or for the height is allowed is proved; of the other three it is tested.
-pub fn parse(alloc: Global, tokens: &Tokens) -> Result<Unit, ParseFault>
+/// Time and memory are linear in the tokens. Trees above a height of 500 are refused, so the recursion is bounded. A refusal
+/// is a rule and the token that breaks it: the syntax, the height, a name of another kind in its scope (C99, 6.2.1 and
+/// 6.2.3), a mix of specifiers (6.7.1 and 6.7.2), the left side of an assignment (6.5.16). That a refusal for the syntax or
+/// for the height is allowed is proved; of the other three it is tested.
+pub fn parse(alloc: Global, tokens: &Tokens) -> Result<Unit, ReadError>
     ensures unit { IfOk result (λ unit. IsWellFormed tokens.now.wide (lexemes_of tokens.now) (items_of unit)) }
     ensures only { (items : List Item) → IsWellFormed tokens.now.wide (lexemes_of tokens.now) items →
         IfOk result (λ unit. items_of unit ≡ items) }
-    ensures refused { (fault : ParseFault) → result ≡ Err fault → fault ≢ faults.NoMemory →
+    ensures refused { (fault : ReadError) → result ≡ Err fault → fault ≢ errors.NoMemory →
         IsUnitRefusal tokens.now fault }
 {
     unit_is_well_formed();
     well_formed_is_read();
     let Ok(all) = lexemes(alloc, tokens) else {
-        return Err(ParseFault::NoMemory);
+        return Err(ReadError::NoMemory);
     };
     match unit(alloc, tokens.is_wide(), all.as_slice()) {
         Ok(found) => Ok(found),
@@ -184,14 +144,14 @@ pub fn parse(alloc: Global, tokens: &Tokens) -> Result<Unit, ParseFault>
 ///
 /// Time is that of `parse` and of making the tape. Memory is linear in the tokens, but that of trees: one item at a time has its
 /// tree, which is let go behind its ops.
-pub fn parse_tape(alloc: Global, tokens: &Tokens) -> Result<Vec<Op>, ParseFault>
+pub fn parse_tape(alloc: Global, tokens: &Tokens) -> Result<Vec<Op>, ReadError>
     ensures tape { IfOk result (λ ops. IsTapeOf tokens.now ops.items) }
-    ensures refused { (fault : ParseFault) → result ≡ Err fault → fault ≢ faults.NoMemory →
+    ensures refused { (fault : ReadError) → result ≡ Err fault → fault ≢ errors.NoMemory →
         IsUnitRefusal tokens.now fault }
 {
     unit_is_well_formed();
     let Ok(all) = lexemes(alloc, tokens) else {
-        return Err(ParseFault::NoMemory);
+        return Err(ReadError::NoMemory);
     };
     match unit_tape(alloc, tokens.is_wide(), all.as_slice()) {
         Ok(ops) => Ok(ops),

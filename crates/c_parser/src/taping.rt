@@ -11,13 +11,13 @@ ghost use Rattle.c_parser.specs.Taping.{tape_turn, tapes_at, tape_at, tape_found
 
 use crate::knot::read;
 use crate::unit_forms::item;
-use c_reading::{Fault, turns_take_tokens};
+use c_reading::{FaultKind, turns_take_tokens};
 use c_syntax::{Item, Unit};
 use c_tape::{Node, OpList, tape};
 use c_tree::Lexeme;
-use held_scopes::Scopes;
+use held_scopes::TypedefScopes;
 use qual_base::NoMemory;
-use reader_base::{Answer, Ask, Place, ReadError, end, is_end, kind_at, refused};
+use reader_base::{Answer, Ask, Cursor, ReadError, end, is_end, kind_at, refused};
 use std::alloc::Global;
 use tape_ops::Op;
 
@@ -58,19 +58,20 @@ fn turn<'a, F>(
     lent: &F,
     ops: &mut Vec<Op>,
     room: u16,
-    place: &mut Place<'a>,
+    cursor: &mut Cursor<'a>,
     depth: u32,
 ) -> Result<bool, ReadError>
 where
-    F: Fn(Ask, &mut Place<'a>) -> Result<Answer, ReadError>,
+    F: Fn(Ask, &mut Cursor<'a>) -> Result<Answer, ReadError>,
     requires { Lends F.Fn lent.now depth }
-    ensures { Turns ops.old.items ops.new.items place.old place.new result (tape_turn depth room) }
+    ensures { Turns ops.old.items ops.new.items cursor.old cursor.new result
+        (tape_turn depth room) }
 {
-    if is_end(kind_at(place.rest)) {
+    if is_end(kind_at(cursor.rest)) {
         return Ok(false);
     }
-    let next = item(lent, room, place, depth)?;
-    let nodes = item_ops(place.alloc, next)?;
+    let next = item(lent, room, cursor, depth)?;
+    let nodes = item_ops(cursor.alloc, next)?;
     add_ops(ops, nodes.as_slice())?;
     Ok(true)
 }
@@ -82,17 +83,17 @@ where
 fn tapes<'a, F>(
     lent: &F,
     room: u16,
-    place: &mut Place<'a>,
+    cursor: &mut Cursor<'a>,
     depth: u32,
 ) -> Result<Vec<Op>, ReadError>
 where
-    F: Fn(Ask, &mut Place<'a>) -> Result<Answer, ReadError>,
+    F: Fn(Ask, &mut Cursor<'a>) -> Result<Answer, ReadError>,
     requires { Lends F.Fn lent.now depth }
-    ensures { Reads (λ ops. ops.items) place.old place.new result (tapes_at depth room) }
+    ensures { Reads (λ ops. ops.items) cursor.old cursor.new result (tapes_at depth room) }
 {
     tapes_step(room, depth);
-    let mut ops = Vec::new(place.alloc);
-    while turn(lent, &mut ops, room, place, depth)? {}
+    let mut ops = Vec::new(cursor.alloc);
+    while turn(lent, &mut ops, room, cursor, depth)? {}
     Ok(ops)
 }
 
@@ -101,19 +102,19 @@ where
 pub(crate) fn unit_tape(alloc: Global, wide: bool, all: &[Lexeme]) -> Result<Vec<Op>, ReadError>
     ensures { Gives (λ ops. tape_found wide ops.items) result (tape_at wide all.now) }
 {
-    let scopes = Scopes::new(alloc, wide)?;
-    let mut place = Place {
+    let scopes = TypedefScopes::new(alloc, wide)?;
+    let mut cursor = Cursor {
         alloc,
         rest: all,
         scopes,
     };
-    let inner = |ask: Ask, place: &mut Place|
-        ensures { ReadsAsked place.old place.new result (asked_at 500 ask) }
-    { read(ask, place, MOST) };
-    let found = tapes(&inner, 499, &mut place, MOST)?;
-    end(&mut place)?;
-    if !place.rest.is_empty() {
-        return Err(refused(Fault::Unexpected, place.rest));
+    let inner = |ask: Ask, cursor: &mut Cursor|
+        ensures { ReadsAsked cursor.old cursor.new result (asked_at 500 ask) }
+    { read(ask, cursor, MOST) };
+    let found = tapes(&inner, 499, &mut cursor, MOST)?;
+    end(&mut cursor)?;
+    if !cursor.rest.is_empty() {
+        return Err(refused(FaultKind::Unexpected, cursor.rest));
     }
     Ok(found)
 }

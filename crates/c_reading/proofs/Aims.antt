@@ -1,8 +1,7 @@
 -- What is to be shown of the reader of each nonterminal, and what of the readers inside may be taken for that.
 --
 -- A family of readers is shown over any readers inside that have `Laws`, over `TokenLaws` and `FirstLaws`; so the
--- families do
--- not wait for each other.
+-- families do not wait for each other.
 use Rattle.std.proofs.Common.{◌≡◌, ℕ, suc, ◌<◌, ◌≤◌, Bool, true, false, List, [], ◌∷◌, Option, Some, None}
 use Rattle.std.specs.Prelude.{if◌then◌else◌, ◌+◌, max, not, ◌&&◌, ◌||◌, ◌⊎◌, is_some, option_map, All}
 use Rattle.c_words.specs.declared.kinds.TokenKind.{TokenKind}
@@ -133,6 +132,7 @@ begins_abstract kind = is_star kind || is_open_paren kind || is_open_bracket kin
 
 -- Levels, rooms and scopes.
 
+-- the least level of an expression of each reach, from 0 with commas to 14 of unary forms
 abbrev pub reach_level : Reach → ℕ
 reach_level Whole = 0
 reach_level Assigned = 1
@@ -153,6 +153,7 @@ abbrev pub least_with : {A : Type 0} → List A → ℕ
 least_with [] = 0
 least_with (x ∷ xs) = 2
 
+-- the least height of a pointer's words: 2 where an attribute is one, else 0
 abbrev pub least_pointer_words : List PointerWord → ℕ
 least_pointer_words [] = 0
 least_pointer_words (pointer_words.Qual q ∷ ws) = least_pointer_words ws
@@ -187,21 +188,25 @@ declr_number false room = room
 -- a parameter's name is declared behind its declarator
 abbrev pub param_scopes : SpecWords → SomeDeclr → HeldScopes → Option HeldScopes
 param_scopes ws d s =
-    behind (behind (behind (spec_words_scopes ws s) (λ t. where_true (some_shows_no_type t d) t)) (some_declr_scopes (Some Value) d)) (λ t. Some (release Value t))
+    behind (behind (behind (spec_words_scopes ws s) (λ t. where_true (some_shows_no_type t d) t))
+    (some_declr_scopes (Some Value) d)) (λ t. Some (release Value t))
 
 -- What of the first operand was read already.
 
+-- what was read of a first operand, spelled before other tokens
 abbrev pub begun_text : Begun → List Lexeme → List Lexeme
 begun_text nothing k = k
 begun_text (extensions tokens) k = extensions_text tokens k
 begun_text (star token) k = sign_text puncts.Star token k
 
+-- an expression begins with these `__extension__` keywords
 abbrev pub exts_begin : List ℕ → Expr → Type 0
 exts_begin tokens (operation e op token e2) = exts_begin tokens e
 exts_begin [] e = Unit {0}
 exts_begin (token ∷ tokens) (extension keyword e) = (token ≡ keyword) × exts_begin tokens e
 exts_begin (token ∷ tokens) e = ⊥
 
+-- an expression begins with the `*` of this token
 abbrev pub star_begins : ℕ → Expr → Type 0
 star_begins token (operation e op token2 e2) = star_begins token e
 star_begins token (prefix token2 p e) = (token ≡ token2) × (p ≡ puncts.Star)
@@ -224,7 +229,8 @@ ends_item kind = ends_expr Assigned kind && not (is_colon kind)
 module _ (all : List Lexeme) where
   -- the tokens behind what was read
   abbrev pub behind_exts : List ℕ → Expr → List Lexeme → List Lexeme
-  behind_exts tokens (operation e op token e2) k = behind_exts tokens e (operator_text all op token (expr_text all e2 k))
+  behind_exts tokens (operation e op token e2) k =
+      behind_exts tokens e (operator_text all op token (expr_text all e2 k))
   behind_exts [] e k = expr_text all e k
   behind_exts (token ∷ tokens) (extension keyword e) k = behind_exts tokens e k
   behind_exts (token ∷ tokens) e k = k
@@ -251,10 +257,16 @@ module _ (all : List Lexeme) where
   quals_form = record { text = quals_text all; Fits = All (IsWordQual all); scopes = λ xs s. Some s; height = λ xs. 0 }
 
   abbrev pub array_words_form : Form (List ArrayWord)
-  array_words_form = record { text = array_words_text all; Fits = All (IsArrayWord all); scopes = λ xs s. Some s; height = λ xs. 0 }
+  array_words_form =
+      record { text = array_words_text all; Fits = All (IsArrayWord all); scopes = λ xs s. Some s; height = λ xs. 0 }
 
   abbrev pub asm_words_form : Form (List Word)
-  asm_words_form = record { text = words_text; Fits = All (λ w. is_asm_word w.keyword ≡ true); scopes = λ xs s. Some s; height = λ xs. 0 }
+  asm_words_form = record {
+    text = words_text;
+    Fits = All (λ w. is_asm_word w.keyword ≡ true);
+    scopes = λ xs s. Some s;
+    height = λ xs. 0;
+  }
 
   abbrev pub group_form : Form Group
   group_form = record { text = group_text all; Fits = IsGroup all; scopes = λ g s. Some s; height = λ g. 0 }
@@ -263,16 +275,32 @@ module _ (all : List Lexeme) where
   attrs_form = record { text = attrs_text all; Fits = AreAttrs all; scopes = λ xs s. Some s; height = least_with }
 
   abbrev pub align_form : Form Attr
-  align_form = record { text = λ a k. keyword_text keywords.Alignas a.keyword (group_text all a.group k); Fits = λ a. IsGroup all a.group; scopes = λ a s. Some s; height = λ a. 0 }
+  align_form = record {
+    text = λ a k. keyword_text keywords.Alignas a.keyword (group_text all a.group k);
+    Fits = λ a. IsGroup all a.group;
+    scopes = λ a s. Some s;
+    height = λ a. 0;
+  }
 
   abbrev pub pointer_words_form : Form (List PointerWord)
-  pointer_words_form = record { text = pointer_words_text all; Fits = All (IsPointerWord all); scopes = λ xs s. Some s; height = least_pointer_words }
+  pointer_words_form = record {
+    text = pointer_words_text all;
+    Fits = All (IsPointerWord all);
+    scopes = λ xs s. Some s;
+    height = least_pointer_words;
+  }
 
   abbrev pub assert_form : Form Assert
-  assert_form = record { text = assert_text all; Fits = λ it. IsGroup all it.group; scopes = λ it s. Some s; height = λ it. 0 }
+  assert_form =
+      record { text = assert_text all; Fits = λ it. IsGroup all it.group; scopes = λ it s. Some s; height = λ it. 0 }
 
   abbrev pub expr_form : Reach → Form Expr
-  expr_form reach = record { text = expr_text all; Fits = λ e. IsExpr all e × (reach_level reach ≤ expr_level e); scopes = expr_scopes; height = expr_height }
+  expr_form reach = record {
+    text = expr_text all;
+    Fits = λ e. IsExpr all e × (reach_level reach ≤ expr_level e);
+    scopes = expr_scopes;
+    height = expr_height;
+  }
 
   abbrev pub assoc_form : Form Assoc
   assoc_form = record { text = assoc_text all; Fits = IsAssoc all; scopes = assoc_scopes; height = assoc_height }
@@ -286,13 +314,24 @@ module _ (all : List Lexeme) where
   }
 
   abbrev pub some_value_form : Punct → Form SomeValue
-  some_value_form mark = record { text = some_value_text all mark; Fits = IsSomeValue all; scopes = some_value_scopes; height = some_value_height }
+  some_value_form mark = record {
+    text = some_value_text all mark;
+    Fits = IsSomeValue all;
+    scopes = some_value_scopes;
+    height = some_value_height;
+  }
 
   abbrev pub struct_item_form : Form StructItem
-  struct_item_form = record { text = struct_item_text all; Fits = IsStructItem all; scopes = struct_item_scopes; height = struct_item_height }
+  struct_item_form = record {
+    text = struct_item_text all;
+    Fits = IsStructItem all;
+    scopes = struct_item_scopes;
+    height = struct_item_height;
+  }
 
   abbrev pub mem_declr_form : Form MemDeclr
-  mem_declr_form = record { text = mem_declr_text all; Fits = IsMemDeclr all; scopes = mem_declr_scopes; height = mem_declr_height }
+  mem_declr_form =
+      record { text = mem_declr_text all; Fits = IsMemDeclr all; scopes = mem_declr_scopes; height = mem_declr_height }
 
   abbrev pub member_form : Form MemberItem
   member_form = record {
@@ -306,14 +345,16 @@ module _ (all : List Lexeme) where
   enumerator_form = record {
     text = λ x k. identifier_text x.name (attrs_text all x.attrs (some_value_text all puncts.Equal x.value k));
     Fits = λ x. AreAttrs all x.attrs × IsSomeValue all x.value;
-    scopes = λ x s. behind (declare x.name.name Constant s) (λ t. behind (some_value_scopes x.value s) (declare x.name.name Constant));
+    scopes = λ x s. behind (declare x.name.name Constant s)
+        (λ t. behind (some_value_scopes x.value s) (declare x.name.name Constant));
     height = λ x. max (attrs_height x.attrs) (some_value_height x.value) + 1;
   }
 
   abbrev pub param_form : Form ParamItem
   param_form = record {
     text = λ x k. spec_words_text all x.words (some_declr_text all x.declr (attrs_text all x.attrs k));
-    Fits = λ x. IsMix x.words × AreSpecWords all x.words × (has_auto x.words ≡ false) × IsSomeDeclr all x.declr × AreAttrs all x.attrs × IsParamEnd x.declr x.attrs × (some_lists_identifiers x.declr ≡ false);
+    Fits = λ x. IsMix x.words × AreSpecWords all x.words × (has_auto x.words ≡ false) × IsSomeDeclr all x.declr
+        × AreAttrs all x.attrs × IsParamEnd x.declr x.attrs × (some_lists_identifiers x.declr ≡ false);
     scopes = λ x s. param_scopes x.words x.declr s;
     height = λ x. max (specs_height x.words) (max (some_declr_height x.declr) (attrs_height x.attrs)) + 1;
   }
@@ -322,11 +363,17 @@ module _ (all : List Lexeme) where
   init_form = record { text = init_text all; Fits = IsInit all; scopes = init_scopes; height = init_height }
 
   abbrev pub init_list_form : Form InitList
-  init_list_form = record { text = init_list_text all; Fits = IsInitList all; scopes = init_list_scopes; height = init_list_height }
+  init_list_form =
+      record { text = init_list_text all; Fits = IsInitList all; scopes = init_list_scopes; height = init_list_height }
 
   -- of a row of designators, of which an `m:` is none
   abbrev pub desig_form : Form Desig
-  desig_form = record { text = desig_text all; Fits = λ d. IsDesig all d × (is_old d ≡ false); scopes = desig_scopes; height = desig_height }
+  desig_form = record {
+    text = desig_text all;
+    Fits = λ d. IsDesig all d × (is_old d ≡ false);
+    scopes = desig_scopes;
+    height = desig_height;
+  }
 
   abbrev pub step_form : Form Desig
   step_form = record { text = desig_text all; Fits = IsStep all; scopes = desig_scopes; height = step_height }
@@ -340,29 +387,44 @@ module _ (all : List Lexeme) where
   }
 
   abbrev pub some_init_form : Form SomeInit
-  some_init_form = record { text = some_init_text all; Fits = IsSomeInit all; scopes = some_init_scopes; height = some_init_height }
+  some_init_form =
+      record { text = some_init_text all; Fits = IsSomeInit all; scopes = some_init_scopes; height = some_init_height }
 
   abbrev pub declr_item_form : Kind → Form DeclrItem
   declr_item_form kind = record {
-    text = λ x k. attrs_text all x.before (declr_text all x.declr (label_text all x.label (attrs_text all x.attrs (some_init_text all x.init k))));
-    Fits = λ x. AreAttrs all x.before × IsDeclr all x.declr × (is_named x.declr ≡ true) × IsLabel all x.label × AreAttrs all x.attrs × IsSomeInit all x.init × (lists_identifiers x.declr ≡ false);
+    text = λ x k. attrs_text all x.before
+        (declr_text all x.declr (label_text all x.label (attrs_text all x.attrs (some_init_text all x.init k))));
+    Fits = λ x. AreAttrs all x.before × IsDeclr all x.declr × (is_named x.declr ≡ true) × IsLabel all x.label
+        × AreAttrs all x.attrs × IsSomeInit all x.init × (lists_identifiers x.declr ≡ false);
     scopes = λ x s. behind (declr_scopes (Some kind) x.declr s) (λ t. some_init_scopes x.init (release kind t));
-    height = λ x. max (attrs_height x.before) (max (declr_height x.declr) (max (label_height x.label) (max (attrs_height x.attrs) (some_init_height x.init)))) + 1;
+    height = λ x. max (attrs_height x.before) (max (declr_height x.declr)
+        (max (label_height x.label) (max (attrs_height x.attrs) (some_init_height x.init)))) + 1;
   }
 
   abbrev pub declaration_form : Form Declaration
-  declaration_form = record { text = declaration_text all; Fits = IsDeclaration all; scopes = declaration_scopes; height = declaration_height }
+  declaration_form = record {
+    text = declaration_text all;
+    Fits = IsDeclaration all;
+    scopes = declaration_scopes;
+    height = declaration_height;
+  }
 
   abbrev pub block_form : Form Block
   block_form = record {
-    text = λ b k. sign_text puncts.OpenBrace b.opening (block_items_text all b.items (sign_text puncts.CloseBrace b.closing k));
+    text = λ b k.
+        sign_text puncts.OpenBrace b.opening (block_items_text all b.items (sign_text puncts.CloseBrace b.closing k));
     Fits = λ b. AreBlockItems all b.items × AreLabelsFirst b.items;
     scopes = λ b s. in_own_scope (block_items_scopes b.items) s;
     height = λ b. block_height b.items;
   }
 
   abbrev pub block_item_form : Form BlockItem
-  block_item_form = record { text = block_item_text all; Fits = IsBlockItem all; scopes = block_item_scopes; height = block_item_height }
+  block_item_form = record {
+    text = block_item_text all;
+    Fits = IsBlockItem all;
+    scopes = block_item_scopes;
+    height = block_item_height;
+  }
 
   abbrev pub stmt_form : Form Stmt
   stmt_form = record { text = stmt_text all; Fits = IsStmt all; scopes = stmt_scopes; height = stmt_height }
@@ -443,7 +505,8 @@ module _ (all : List Lexeme) where
   -- Expressions.
 
   -- What was read behind what of the first operand stood already.
-  pub record TakesBegun (reach : Reach) (begun : Begun) (room : ℕ) (s : HeldScopes) (ts : List Lexeme) (x : Found Expr) : Type 0 where
+  pub record TakesBegun (reach : Reach) (begun : Begun) (room : ℕ) (s : HeldScopes) (ts : List Lexeme)
+      (x : Found Expr) : Type 0 where
     pub spelled : begun_text begun ts ≡ expr_text all x.tree x.rest
     pub fits : IsExpr all x.tree × (reach_level reach ≤ expr_level x.tree)
     pub named : expr_scopes x.tree s ≡ Some x.scopes
@@ -460,7 +523,8 @@ module _ (all : List Lexeme) where
         expr reach begun room s ts ≡ done x → TakesBegun reach begun room s ts x
     pub begun_complete : (reach : Reach) (begun : Begun) (room : ℕ) → is_row reach ≡ true → room < n
         → (e : Expr) (s s' : HeldScopes) (k : List Lexeme) → IsExpr all e → reach_level reach ≤ expr_level e →
-        IsBegun begun e → expr_scopes e s ≡ Some s' → expr_height e ≤ room → ends_expr reach (kind_at k) ≡ true → expr reach begun room s (behind_begun begun e k) ≡ done (found e s' k)
+        IsBegun begun e → expr_scopes e s ≡ Some s' → expr_height e ≤ room → ends_expr reach (kind_at k) ≡ true
+        → expr reach begun room s (behind_begun begun e k) ≡ done (found e s' k)
 
   -- Names of types.
 
@@ -473,7 +537,8 @@ module _ (all : List Lexeme) where
 
   -- What was read behind words that stood already: they are a mix with these. The room is asked for where a word was
   -- read.
-  pub record TakesWords (role : Role) (words : SpecWords) (room : ℕ) (s : HeldScopes) (ts : List Lexeme) (x : Found SpecWords) : Type 0 where
+  pub record TakesWords (role : Role) (words : SpecWords) (room : ℕ) (s : HeldScopes) (ts : List Lexeme)
+      (x : Found SpecWords) : Type 0 where
     pub rest : SpecWords
     pub words_are : x.tree ≡ append_words words rest
     pub mix : IsMix x.tree
@@ -492,7 +557,8 @@ module _ (all : List Lexeme) where
         TakesWords role words room s ts x
     pub complete : (role : Role) (words rest : SpecWords) (room : ℕ) → room < n → (s s' : HeldScopes) (k : List Lexeme)
         → IsMix (append_words words rest) → FitsRole role rest →
-        spec_words_scopes rest s ≡ Some s' → (rest ≡ no_words) ⊎ (specs_height (append_words words rest) ≤ room) → EndsWords s' (append_words words rest) (kind_at k) →
+        spec_words_scopes rest s ≡ Some s' → (rest ≡ no_words) ⊎ (specs_height (append_words words rest) ≤ room)
+        → EndsWords s' (append_words words rest) (kind_at k) →
         specs role words room s (spec_words_text all rest k) ≡ done (found (append_words words rest) s' k)
 
   -- Declarators.
@@ -512,7 +578,8 @@ module _ (all : List Lexeme) where
   MayName Abstract wanted = is_typedef wanted ≡ false
   MayName Either wanted = is_typedef wanted ≡ false
 
-  pub record TakesDeclr (mode : Mode) (wanted : Option Kind) (flag : Bool) (room : ℕ) (s : HeldScopes) (ts : List Lexeme) (x : Found Declared) : Type 0 where
+  pub record TakesDeclr (mode : Mode) (wanted : Option Kind) (flag : Bool) (room : ℕ) (s : HeldScopes)
+      (ts : List Lexeme) (x : Found Declared) : Type 0 where
     pub spelled : ts ≡ some_declr_text all x.tree.declr x.rest
     pub fits : FitsMode mode x.tree.declr s
     pub plain : flag ≡ false → some_lists_identifiers x.tree.declr ≡ false
@@ -524,13 +591,15 @@ module _ (all : List Lexeme) where
   pub record DeclrLaws (n : ℕ) (declr : Mode → Option Kind → Bool → ℕ → Reader Declared) : Type 0 where
     pub falls : (mode : Mode) (wanted : Option Kind) (flag : Bool) (room : ℕ) → Falls (declr mode wanted flag room)
     pub shrinks : (wanted : Option Kind) (flag : Bool) (room : ℕ) → Shrinks (declr Named wanted flag room)
-    pub sound : (mode : Mode) (wanted : Option Kind) (flag : Bool) (room : ℕ) (s : HeldScopes) (ts : List Lexeme) (x : Found Declared)
+    pub sound : (mode : Mode) (wanted : Option Kind) (flag : Bool) (room : ℕ) (s : HeldScopes) (ts : List Lexeme)
+        (x : Found Declared)
         → IsTail all ts → declr mode wanted flag room s ts ≡ done x →
         TakesDeclr mode wanted flag room s ts x
     pub complete : (mode : Mode) (wanted : Option Kind) (flag : Bool) (room : ℕ) → declr_number flag room < n
         → MayName mode wanted → (d : SomeDeclr) (s s' : HeldScopes) (k : List Lexeme) → FitsMode mode d s
         → (flag ≡ true) ⊎ (some_lists_identifiers d ≡ false) →
-        some_declr_scopes wanted d s ≡ Some s' → some_declr_height d ≤ declr_room flag (closed_of wanted d s) room → ends_declr mode d (kind_at k) ≡ true →
+        some_declr_scopes wanted d s ≡ Some s' → some_declr_height d ≤ declr_room flag (closed_of wanted d s) room
+        → ends_declr mode d (kind_at k) ≡ true →
         declr mode wanted flag room s (some_declr_text all d k) ≡ done (found (declared_as wanted d s) s' k)
 
   -- Initialisers in braces, blocks, statements.

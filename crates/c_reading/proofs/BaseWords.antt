@@ -1,6 +1,7 @@
 -- A base word behind the words of a typedef, which is its name there.
 use Rattle.std.proofs.Common.{◌≡◌, ◌≢◌, ℕ, zero, suc, Bool, true, false, if◌then◌else◌, List, [], ◌∷◌, Option, Some, None, inl, inr, refl, sym, ◌∙◌, ap, subst, arith}
 use Rattle.std.specs.Prelude.{◌&&◌, ◌||◌, ◌⊎◌, not, is_some, Contains}
+use Rattle.std.proofs.lemmas.Bool.{or_right, or_left}
 use Rattle.c_words.specs.declared.kinds.TokenKind.{TokenKind}
 use Rattle.c_words.specs.declared.kinds.Keyword.{Keyword}
 use Rattle.c_words.specs.declared.kinds.Keyword.TheVariants as keywords
@@ -74,11 +75,13 @@ base_whole (Some mix) whole on = by_types mix.types on
 pub base_mixes : (whole_are : WholeAreMixes) (ws : SpecWords) → IsMix ws
     → goes_on ws (classes.Spells keywords.BaseWord) ≡ true → IsMix (and_base ws 0)
 base_mixes whole_are ws mix on =
-    (whole_are (and_base ws 0)).0 (ap whole_in (mix_and_base (Some no_mix) ws 0) ∙ base_whole (mix_of ws) ((whole_are ws).1 mix) on)
+    (whole_are (and_base ws 0)).0
+    (ap whole_in (mix_and_base (Some no_mix) ws 0) ∙ base_whole (mix_of ws) ((whole_are ws).1 mix) on)
 
 pub base_continues : (goes : MixesGoOn) (ws : SpecWords) → IsMix (and_base ws 0)
     → goes_on ws (classes.Spells keywords.BaseWord) ≡ true
-base_continues goes ws mix = goes ws (basic (record { keyword = keywords.BaseWord; token = 0 })) no_words (subst IsMix (and_base_is ws 0) mix)
+base_continues goes ws mix =
+    goes ws (basic (record { keyword = keywords.BaseWord; token = 0 })) no_words (subst IsMix (and_base_is ws 0) mix)
 
 -- a declarator that begins with a base word is that of a typedef in wider C
 pub base_scopes : (kind : Option Kind) (d : Declr) (s t : HeldScopes) → begins_base d ≡ true
@@ -96,7 +99,8 @@ base_scopes kind (params d opening ps dots closing) s t begins named =
     let b = behind_ok (declr_scopes kind d s) (in_own_scope (params_scopes ps)) t named in
     base_scopes kind d s b.0 begins b.1
 base_scopes kind (identifiers d opening names closing) s t begins named =
-    let b = behind_ok (declr_scopes kind d s) (λ t. behind (where_true (is_wide t) t) (identifiers_scopes names)) t named in
+    let b =
+    behind_ok (declr_scopes kind d s) (λ t. behind (where_true (is_wide t) t) (identifiers_scopes names)) t named in
     base_scopes kind d s b.0 begins b.1
 base_scopes kind (declr_name token name) s t begins named = absurd cc
 base_scopes kind (declr_paren opening attrs d closing) s t begins named = absurd cc
@@ -117,7 +121,8 @@ not_base kind d s t other named = by_begin (begins_base d) refl
 
 -- what the declarators of a declaration make of the scopes
 abbrev pub words_declrs_scopes : SpecWords → InitDeclrs → HeldScopes → Option HeldScopes
-words_declrs_scopes words ds = if has_auto words then auto_declrs_scopes ds else init_declrs_scopes (declared_kind words) ds
+words_declrs_scopes words ds =
+    if has_auto words then auto_declrs_scopes ds else init_declrs_scopes (declared_kind words) ds
 
 -- `typedef` is one of these words
 pub typedef_among : (ws : List Keyword) → Contains ws keywords.Typedef → has_typedef_word ws ≡ true
@@ -132,12 +137,14 @@ typedef_among (w ∷ ws) (suc k, l, e) = rw (typedef_among ws (k, omega (arith, 
 module _ (all : List Lexeme) where
   -- declarators that are read behind words which a base word does not continue
   pub base_start : (goes : MixesGoOn) (ws : SpecWords) (ds : InitDeclrs) (k : List Lexeme)
-      → (is_base_word (kind_at (init_declrs_text all ds k)) ≡ true → goes_on ws (classes.Spells keywords.BaseWord) ≡ false) →
+      → (is_base_word (kind_at (init_declrs_text all ds k)) ≡ true
+      → goes_on ws (classes.Spells keywords.BaseWord) ≡ false) →
       IsInitStart ds → AreInitDeclrs all ds → IsBaseStart ws ds
   base_start goes ws no_init_declrs k stops start fit = tt
   base_start goes ws (more_init_declrs (a ∷ attrs) d l attrs2 i ds) k stops start fit = absurd cc
   base_start goes ws (more_init_declrs [] d l attrs2 i ds) k stops start fit = λ begins mix.
-      let off : goes_on ws (classes.Spells keywords.BaseWord) ≡ false = stops (named_base all d (label_text all l (attrs_text all attrs2 (some_init_text all i (other_init_declrs_text all ds k)))) fit.1 fit.2 ∙ begins) in
+      let off : goes_on ws (classes.Spells keywords.BaseWord) ≡ false = stops (named_base all d (label_text all l
+      (attrs_text all attrs2 (some_init_text all i (other_init_declrs_text all ds k)))) fit.1 fit.2 ∙ begins) in
       let on : goes_on ws (classes.Spells keywords.BaseWord) ≡ true = base_continues goes ws mix in
       absurd cc
 
@@ -150,43 +157,44 @@ module _ (all : List Lexeme) where
       by_test false e = absurd cc
 
   -- behind `__auto_type` a base word stands where `typedef` is one of the words
-  auto_typedef : (words : SpecWords) (d : Declr) (l : Option AsmLabel) (attrs : List Attr) (i : SomeInit) (ds : InitDeclrs)
+  auto_typedef : (words : SpecWords) (d : Declr) (l : Option AsmLabel) (attrs : List Attr) (i : SomeInit)
+      (ds : InitDeclrs)
       → begins_base d ≡ true → IsAutoDeclr words (more_init_declrs [] d l attrs i ds) →
       has_typedef_word (storage_words words) ≡ true
-  auto_typedef words (base_name token) None attrs (some_init equal (init_value e)) no_init_declrs is auto = typedef_among (storage_words words) auto
+  auto_typedef words (base_name token) None attrs (some_init equal (init_value e)) no_init_declrs is auto =
+      typedef_among (storage_words words) auto
   auto_typedef words (declr_name token name) l attrs i ds is auto = absurd cc
   auto_typedef words d l attrs i ds is auto = absurd auto
-
-  either_right : (a b : Bool) → b ≡ true → a || b ≡ true
-  either_right true b on = refl
-  either_right false b on = on
-
-  either_left : (a b : Bool) → a ≡ true → a || b ≡ true
-  either_left true b on = refl
-  either_left false b on = absurd cc
 
   module _ (whole_are : WholeAreMixes) (firsts : FirstLaws all) where
     -- the words end before the declarators that are the definition's
     pub declrs_end : (words : SpecWords) (ds : InitDeclrs) (semi : ℕ) (s t : HeldScopes) (k : List Lexeme) → IsMix words
         → IsInitStart ds → AreInitDeclrs all ds → IsAutoWhere (has_auto words) words ds → IsBaseStart words ds →
-        words_declrs_scopes words ds s ≡ Some t → EndsWords s words (kind_at (init_declrs_text all ds (sign_text puncts.Semicolon semi k)))
+        words_declrs_scopes words ds s ≡ Some t
+        → EndsWords s words (kind_at (init_declrs_text all ds (sign_text puncts.Semicolon semi k)))
     declrs_end words no_init_declrs semi s t k mix start fit auto base named = inl refl
     declrs_end words (more_init_declrs (a ∷ attrs) d l attrs2 i ds) semi s t k mix start fit auto base named = absurd cc
-    declrs_end words (more_init_declrs [] d l attrs2 i ds) semi s t k mix start fit auto base named = by_begin (begins_base d) refl
+    declrs_end words (more_init_declrs [] d l attrs2 i ds) semi s t k mix start fit auto base named =
+        by_begin (begins_base d) refl
       where
         more : List Lexeme
-        more = label_text all l (attrs_text all attrs2 (some_init_text all i (other_init_declrs_text all ds (sign_text puncts.Semicolon semi k))))
+        more = label_text all l (attrs_text all attrs2
+            (some_init_text all i (other_init_declrs_text all ds (sign_text puncts.Semicolon semi k))))
 
         by_auto : begins_base d ≡ true → (b : Bool) → has_auto words ≡ b
             → IsAutoWhere b words (more_init_declrs [] d l attrs2 i ds) →
-            (if b then auto_declrs_scopes (more_init_declrs [] d l attrs2 i ds) else init_declrs_scopes (declared_kind words) (more_init_declrs [] d l attrs2 i ds)) s ≡ Some t →
+            (if b then auto_declrs_scopes (more_init_declrs [] d l attrs2 i ds)
+            else init_declrs_scopes (declared_kind words) (more_init_declrs [] d l attrs2 i ds)) s ≡ Some t →
             (is_wide s || has_auto words ≡ true) × (has_typedef_word (storage_words words) ≡ true)
-        by_auto is true on auto named = (either_right (is_wide s) (has_auto words) on, auto_typedef words d l attrs2 i ds is auto)
+        by_auto is true on auto named =
+            (or_right (is_wide s) (has_auto words) on, auto_typedef words d l attrs2 i ds is auto)
         by_auto is false on auto named =
-            let a = behind_ok (behind (declr_scopes (Some (declared_kind words)) d s) (λ t. some_init_scopes i (release (declared_kind words) t))) (init_declrs_scopes (declared_kind words) ds) t named in
-            let b = behind_ok (declr_scopes (Some (declared_kind words)) d s) (λ t. some_init_scopes i (release (declared_kind words) t)) a.0 a.1 in
+            let a = behind_ok (behind (declr_scopes (Some (declared_kind words)) d s) (λ t. some_init_scopes i
+            (release (declared_kind words) t))) (init_declrs_scopes (declared_kind words) ds) t named in
+            let b = behind_ok (declr_scopes (Some (declared_kind words)) d s)
+            (λ t. some_init_scopes i (release (declared_kind words) t)) a.0 a.1 in
             let p = base_scopes (Some (declared_kind words)) d s b.0 is b.1 in
-            (either_left (is_wide s) (has_auto words) p.0, typedef_words words p.1)
+            (or_left (is_wide s) (has_auto words) p.0, typedef_words words p.1)
 
         by_on : begins_base d ≡ true → (b : Bool) → goes_on words (classes.Spells keywords.BaseWord) ≡ b
             → goes_on words (classes.Spells keywords.BaseWord) ≡ false
@@ -194,7 +202,9 @@ module _ (all : List Lexeme) where
         by_on is false on = on
 
         by_begin : (b : Bool) → begins_base d ≡ b → EndsWords s words (kind_at (declr_text all d more))
-        by_begin false is = inl (named_ends_specs (kind_at (declr_text all d more)) (firsts.named_begins d more fit.1 fit.2) (firsts.named_base d more fit.1 fit.2 ∙ is))
+        by_begin false is =
+            inl (named_ends_specs (kind_at (declr_text all d more)) (firsts.named_begins d more fit.1 fit.2)
+            (firsts.named_base d more fit.1 fit.2 ∙ is))
         by_begin true is =
             let p = by_auto is (has_auto words) refl auto named in
             let off = by_on is (goes_on words (classes.Spells keywords.BaseWord)) refl in
@@ -209,10 +219,12 @@ first_typedef w h e = by_word (ap is_typedef_word e) h
     by_word {b = true} p q = cc
     by_word {b = false} p q = cc
 
+-- storage words that fail the test for `typedef` hold none
 pub no_typedef : (ws : List Keyword) → has_typedef_word ws ≡ false → ¬ Contains ws keywords.Typedef
 no_typedef [] h (k, l, e) = absurd (omega (arith, l))
 no_typedef (w ∷ ws) h (zero, l, e) = if_ok (is_typedef_word w) h (λ is e2. absurd cc) (λ is e2. first_typedef w is e)
-no_typedef (w ∷ ws) h (suc k, l, e) = if_ok (is_typedef_word w) h (λ is e2. absurd cc) (λ is e2. no_typedef ws e2 (k, omega (arith, l), e))
+no_typedef (w ∷ ws) h (suc k, l, e) =
+    if_ok (is_typedef_word w) h (λ is e2. absurd cc) (λ is e2. no_typedef ws e2 (k, omega (arith, l), e))
 
 contains_first : (w : Keyword) (ws : List Keyword) → w ≡ keywords.Typedef → Contains (w ∷ ws) keywords.Typedef
 contains_first w ws e = (0, omega arith, e)
@@ -224,6 +236,7 @@ typedef_is : (w : Keyword) → is_typedef_word w ≡ true → w ≡ keywords.Typ
 typedef_is keywords.Typedef h = refl
 typedef_is w h = absurd cc
 
+-- storage words that hold no `typedef` fail the test for it
 pub bare_words : (ws : List Keyword) → (Contains ws keywords.Typedef → ⊥) → has_typedef_word ws ≡ false
 bare_words [] h = refl
 bare_words (w ∷ ws) h = by_word (is_typedef_word w) refl (bare_words ws (λ c. h (contains_later w ws c)))
@@ -233,6 +246,7 @@ bare_words (w ∷ ws) h = by_word (is_typedef_word w) refl (bare_words ws (λ c.
     by_word true is later = absurd (h (contains_first w ws (typedef_is w is)))
     by_word false is later = later
 
+-- storage words that pass the test for `typedef` hold it
 pub among_typedef : (ws : List Keyword) → has_typedef_word ws ≡ true → Contains ws keywords.Typedef
 among_typedef [] h = absurd cc
 among_typedef (w ∷ ws) h = by_word (is_typedef_word w) refl (among_typedef ws) h

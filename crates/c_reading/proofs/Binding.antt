@@ -5,7 +5,7 @@ use Rattle.std.proofs.lemmas.Bool.{leb-true, le-leb}
 use Rattle.c_words.specs.declared.kinds.TokenKind.{TokenKind}
 use Rattle.c_tree.specs.declared.lexeme.Lexeme.{Lexeme}
 use Rattle.c_units.specs.HeldScopes.{HeldScopes}
-use Rattle.c_reading.specs.declared.kinds.Fault.TheVariants.{Unexpected, TooDeep}
+use Rattle.c_reading.specs.declared.kinds.FaultKind.TheVariants.{Unexpected, TooDeep}
 use Rattle.c_reading.specs.Reading.{Refusal, Found, Read, and_then, ends, fits, refuses, take_one, token_at}
 
 -- what was read, of these scopes and tokens behind it
@@ -57,6 +57,7 @@ pub take_falls : (s : HeldScopes) (ts : List Lexeme) (x : Found ℕ) → take_on
 take_falls s [] x e = absurd cc
 take_falls s (t ∷ ts) x e = ap (λ (x : Found ℕ). suc (length x.rest)) (sym (ok_is e))
 
+-- a reader of one token that passes a test leaves one token fewer
 pub token_falls : (test : TokenKind → Bool) (s : HeldScopes) (ts : List Lexeme) (x : Found ℕ)
     → token_at test s ts ≡ done x → suc (length x.rest) ≡ length ts
 token_falls test s [] x e = absurd cc

@@ -18,11 +18,13 @@ use Rattle.c_reading.proofs.Aims.{least_with, declr_item_form, block_item_form}
 
 abbrev pub declrs_items : InitDeclrs → List DeclrItem
 declrs_items no_init_declrs = []
-declrs_items (more_init_declrs attrs d asm_label attrs2 init ds) = record { before = attrs; declr = d; label = asm_label; attrs = attrs2; init = init } ∷ declrs_items ds
+declrs_items (more_init_declrs attrs d asm_label attrs2 init ds) =
+    record { before = attrs; declr = d; label = asm_label; attrs = attrs2; init = init } ∷ declrs_items ds
 
 pub declrs_back : (ds : InitDeclrs) → init_declrs_from (declrs_items ds) ≡ ds
 declrs_back no_init_declrs = refl
-declrs_back (more_init_declrs attrs d asm_label attrs2 init ds) = ap (more_init_declrs attrs d asm_label attrs2 init) (declrs_back ds)
+declrs_back (more_init_declrs attrs d asm_label attrs2 init ds) =
+    ap (more_init_declrs attrs d asm_label attrs2 init) (declrs_back ds)
 
 abbrev pub block_items_items : BlockItems → List BlockItem
 block_items_items no_block_items = []
@@ -47,13 +49,15 @@ module _ (all : List Lexeme) where
         → others_text (declr_item_form all kind) no_ending xs k ≡ other_init_declrs_text all (init_declrs_from xs) k
     other_declrs_are [] k = refl
     other_declrs_are (x ∷ xs) k =
-        ap (λ (k : List Lexeme). separated (attrs_text all x.before (declr_text all x.declr (label_text all x.label (attrs_text all x.attrs (some_init_text all x.init k)))))) (other_declrs_are xs k)
+        ap (λ (k : List Lexeme). separated (attrs_text all x.before (declr_text all x.declr
+        (label_text all x.label (attrs_text all x.attrs (some_init_text all x.init k)))))) (other_declrs_are xs k)
 
     pub declrs_are : (xs : List DeclrItem) (k : List Lexeme)
         → commas_text (declr_item_form all kind) no_ending xs k ≡ init_declrs_text all (init_declrs_from xs) k
     declrs_are [] k = refl
     declrs_are (x ∷ xs) k =
-        ap (λ (k : List Lexeme). attrs_text all x.before (declr_text all x.declr (label_text all x.label (attrs_text all x.attrs (some_init_text all x.init k))))) (other_declrs_are xs k)
+        ap (λ (k : List Lexeme). attrs_text all x.before (declr_text all x.declr
+        (label_text all x.label (attrs_text all x.attrs (some_init_text all x.init k))))) (other_declrs_are xs k)
 
     pub others_are : (xs : List DeclrItem) (k : List Lexeme)
         → others_text (declr_item_form all kind) no_ending xs k ≡ other_init_declrs_text all (init_declrs_from xs) k
@@ -70,17 +74,22 @@ module _ (all : List Lexeme) where
 
     pub declrs_fit_back : (xs : InitDeclrs) → AreInitDeclrs all xs → AllFit (declr_item_form all kind) (declrs_items xs)
     declrs_fit_back no_init_declrs h = tt
-    declrs_fit_back (more_init_declrs attrs d asm_label attrs2 init ds) h = ((h.0, h.1, h.2, h.3, h.4, h.5, h.7), declrs_fit_back ds h.6)
+    declrs_fit_back (more_init_declrs attrs d asm_label attrs2 init ds) h =
+        ((h.0, h.1, h.2, h.3, h.4, h.5, h.7), declrs_fit_back ds h.6)
 
     pub declrs_named : (xs : List DeclrItem) (s : HeldScopes)
         → row_scopes (declr_item_form all kind) xs s ≡ init_declrs_scopes kind (init_declrs_from xs) s
     declrs_named [] s = refl
-    declrs_named (x ∷ xs) s = behind_same (behind (declr_scopes (Some kind) x.declr s) (λ t. some_init_scopes x.init (release kind t))) _ _ (λ t. declrs_named xs t)
+    declrs_named (x ∷ xs) s =
+        behind_same (behind (declr_scopes (Some kind) x.declr s) (λ t. some_init_scopes x.init (release kind t))) _ _
+        (λ t. declrs_named xs t)
 
     pub declrs_high : (xs : List DeclrItem)
         → row_height (declr_item_form all kind) xs ≡ init_declrs_height (init_declrs_from xs)
     declrs_high [] = refl
-    declrs_high (x ∷ xs) = ap (max (max (attrs_height x.before) (max (declr_height x.declr) (max (label_height x.label) (max (attrs_height x.attrs) (some_init_height x.init)))) + 1)) (declrs_high xs)
+    declrs_high (x ∷ xs) =
+        ap (max (max (attrs_height x.before) (max (declr_height x.declr)
+        (max (label_height x.label) (max (attrs_height x.attrs) (some_init_height x.init)))) + 1)) (declrs_high xs)
 
   pub block_items_are : (xs : List BlockItem) (k : List Lexeme)
       → row_text (block_item_form all) xs k ≡ block_items_text all (block_items_from xs) k
@@ -114,7 +123,8 @@ module _ (all : List Lexeme) where
       → row_height (block_item_form all) (block_items_items xs) ≤ room - 1
   block_high_back no_block_items room h = omega arith
   block_high_back (more_block_items x xs) room h =
-      let rest : row_height (block_item_form all) (block_items_items xs) ≤ room - 1 = block_high_back xs room (omega (arith, h)) in
+      let rest : row_height (block_item_form all) (block_items_items xs) ≤ room - 1 =
+      block_high_back xs room (omega (arith, h)) in
       omega (arith, h, rest)
 
   pub block_some : (xs : BlockItems) → 1 ≤ block_height xs

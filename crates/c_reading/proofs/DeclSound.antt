@@ -38,6 +38,7 @@ use Rattle.c_reading.proofs.Aims.{declr_item_form, some_init_form, declaration_f
 use Rattle.c_reading.proofs.Shared.{specs_here_sound, specs_here_stops, named_declr_sound, init_sound}
 use Rattle.c_reading.proofs.StmtFalls.{next_declr_shrinks}
 use Rattle.c_reading.proofs.DeclLists.{attrs_room, declrs_are, no_end, declrs_fit, declrs_named, declrs_high}
+use Rattle.c_reading.proofs.SpecsSoundBodies.{declr_high}
 
 pub no_attrs : (all : List Lexeme) → AreAttrs all []
 no_attrs all = λ k d h. absurd (omega (arith, h))
@@ -46,10 +47,6 @@ no_attrs all = λ k d h. absurd (omega (arith, h))
 item_low : (a d l b i room : ℕ) → a ≤ room - 1 → d ≤ room - 1 → l ≤ room - 1 → b ≤ room - 1 → i ≤ room - 1 → 1 ≤ d
     → max a (max d (max l (max b i))) + 1 ≤ room
 item_low a d l b i room p q r s t u = omega (arith, p, q, r, s, t, u)
-
-pub declr_high : (d : Declr) → 1 ≤ declr_height d
-declr_high (declr_name token name) = omega arith
-declr_high d = omega arith
 
 append_none : (ws : SpecWords) → append_words ws no_words ≡ ws
 append_none no_words = refl
@@ -65,6 +62,7 @@ append_fits : (all : List Lexeme) (ws more : SpecWords) → AreSpecWords all ws 
 append_fits all no_words more h m = m
 append_fits all (more_words w ws) more h m = (h.0, append_fits all ws more h.1 m)
 
+-- specifiers followed by more give the scopes that the latter give behind the former
 append_scopes : (ws more : SpecWords) (s t u : HeldScopes) → spec_words_scopes ws s ≡ Some t
     → spec_words_scopes more t ≡ Some u → spec_words_scopes (append_words ws more) s ≡ Some u
 append_scopes no_words more s t u h m = subst (λ (t : HeldScopes). spec_words_scopes more t ≡ Some u) (sym cc) m
@@ -72,7 +70,8 @@ append_scopes (more_words w ws) more s t u h m =
     let b = behind_ok (spec_word_scopes w s) (spec_words_scopes ws) t h in
     behind_is (spec_words_scopes (append_words ws more)) b.1 (append_scopes ws more b.0 t u b.2 m)
 
-module _ (all : List Lexeme) (numbered : IsNumbered all) (tokens : TokenLaws all) (n : ℕ) (inner : Inner) (laws : Laws all n inner) where
+module _ (all : List Lexeme) (numbered : IsNumbered all) (tokens : TokenLaws all) (n : ℕ) (inner : Inner)
+    (laws : Laws all n inner) where
   -- [asm bal]
   record TookLabel (s : HeldScopes) (ts : List Lexeme) (x : Found (Option AsmLabel)) : Type 0 where
     spelled : ts ≡ label_text all x.tree x.rest
@@ -92,7 +91,12 @@ module _ (all : List Lexeme) (numbered : IsNumbered all) (tokens : TokenLaws all
       let b = bind_ok a.2 in
       let o = took all (kinds.Keyword keywords.Asm) s ts a.0 tail (asm_kind (kind_at ts) is) a.1 in
       let i = tokens.group_sound 0 a.0.scopes a.0.rest b.0 o.left b.1 in
-      at_end (TookLabel s ts) b.2 (record { spelled = o.spelled ∙ ap (keyword_text keywords.Asm a.0.tree) i.spelled; fits = i.fits; same = some_scopes a.0.scopes b.0.scopes i.named ∙ o.same; left = i.left })) (λ is e.
+      at_end (TookLabel s ts) b.2 (record {
+        spelled = o.spelled ∙ ap (keyword_text keywords.Asm a.0.tree) i.spelled;
+        fits = i.fits;
+        same = some_scopes a.0.scopes b.0.scopes i.named ∙ o.same;
+        left = i.left;
+      })) (λ is e.
       at_end (TookLabel s ts) e (record { spelled = refl; fits = tt; same = refl; left = tail }))
 
   pub some_init_sound : (room : ℕ) → IsSound all (some_init_form all) (room - 1) (some_init_with inner room)
@@ -103,18 +107,27 @@ module _ (all : List Lexeme) (numbered : IsNumbered all) (tokens : TokenLaws all
       let b = bind_ok a.2 in
       let o = took all (kinds.Punct puncts.Equal) s ts a.0 tail (equal_kind (kind_at ts) is) a.1 in
       let i = init_sound all n inner laws (room - 1) a.0.scopes a.0.rest b.0 o.left b.1 in
-      at_end (Takes all (some_init_form all) (room - 1) s ts) b.2 (record { spelled = o.spelled ∙ ap (sign_text puncts.Equal a.0.tree) i.spelled; fits = i.fits; named = through (init_scopes b.0.tree) o.same i.named refl; low = i.low; left = i.left })) (λ is e.
-      at_end (Takes all (some_init_form all) (room - 1) s ts) e (record { spelled = refl; fits = tt; named = refl; low = omega arith; left = tail }))
+      at_end (Takes all (some_init_form all) (room - 1) s ts) b.2 (record {
+        spelled = o.spelled ∙ ap (sign_text puncts.Equal a.0.tree) i.spelled;
+        fits = i.fits;
+        named = through (init_scopes b.0.tree) o.same i.named refl;
+        low = i.low;
+        left = i.left;
+      })) (λ is e.
+      at_end (Takes all (some_init_form all) (room - 1) s ts) e
+      (record { spelled = refl; fits = tt; named = refl; low = omega arith; left = tail }))
 
   label_low : (l : Option AsmLabel) (d room : ℕ) → d ≤ room - 1 → 1 ≤ d → label_height l ≤ room - 1
   label_low None d room a b = omega arith
   label_low (Some l) d room a b = omega (arith, a, b)
 
   -- What stands behind a declarator, whose name is declared there, with the declarator and what stands before it.
-  pub declr_behind_sound : (before : List Attr) (d : Declr) (kind : Kind) (room : ℕ) (s u : HeldScopes) (ts : List Lexeme) (x : Found DeclrItem)
+  pub declr_behind_sound : (before : List Attr) (d : Declr) (kind : Kind) (room : ℕ) (s u : HeldScopes)
+      (ts : List Lexeme) (x : Found DeclrItem)
       → AreAttrs all before → attrs_height before ≤ room - 1 → IsDeclr all d → is_named d ≡ true
       → lists_identifiers d ≡ false →
-      declr_scopes (Some kind) d s ≡ Some u → declr_height d ≤ room - 1 → IsTail all ts → declr_behind inner before d room (release kind u) ts ≡ done x →
+      declr_scopes (Some kind) d s ≡ Some u → declr_height d ≤ room - 1 → IsTail all ts
+      → declr_behind inner before d room (release kind u) ts ≡ done x →
       Takes all (declr_item_form all kind) room s (attrs_text all before (declr_text all d ts)) x
   unfolding declr_behind
   declr_behind_sound before d kind room s u ts x attrs_fit attrs_low fit is_name plain named low tail e =
@@ -125,14 +138,19 @@ module _ (all : List Lexeme) (numbered : IsNumbered all) (tokens : TokenLaws all
       let i = tokens.attrs_sound room a.0.scopes a.0.rest b.0 o.left b.1 in
       let j = some_init_sound room b.0.scopes b.0.rest c.0 i.left c.1 in
       at_end (Takes all (declr_item_form all kind) room s (attrs_text all before (declr_text all d ts))) c.2 (record {
-        spelled = ap (λ (k : List Lexeme). attrs_text all before (declr_text all d k)) (o.spelled ∙ ap (label_text all a.0.tree) (i.spelled ∙ ap (attrs_text all b.0.tree) j.spelled));
+        spelled = ap (λ (k : List Lexeme). attrs_text all before (declr_text all d k))
+            (o.spelled ∙ ap (label_text all a.0.tree) (i.spelled ∙ ap (attrs_text all b.0.tree) j.spelled));
         fits = (attrs_fit, fit, is_name, o.fits, i.fits, j.fits, plain);
-        named = behind_is (λ t. some_init_scopes c.0.tree (release kind t)) named (through (some_init_scopes c.0.tree) (some_scopes a.0.scopes b.0.scopes i.named ∙ o.same) j.named refl);
-        low = item_low (attrs_height before) (declr_height d) (label_height a.0.tree) (attrs_height b.0.tree) (some_init_height c.0.tree) room attrs_low low (label_low a.0.tree (declr_height d) room low (declr_high d)) (attrs_room b.0.tree room i.low) j.low (declr_high d);
+        named = behind_is (λ t. some_init_scopes c.0.tree (release kind t)) named
+            (through (some_init_scopes c.0.tree) (some_scopes a.0.scopes b.0.scopes i.named ∙ o.same) j.named refl);
+        low = item_low (attrs_height before) (declr_height d) (label_height a.0.tree) (attrs_height b.0.tree)
+            (some_init_height c.0.tree) room attrs_low low (label_low a.0.tree (declr_height d) room low (declr_high d))
+            (attrs_room b.0.tree room i.low) j.low (declr_high d);
         left = j.left;
       })
 
-  pub behind_first : (before : List Attr) (d : Declr) (room : ℕ) (s : HeldScopes) (ts : List Lexeme) (x : Found DeclrItem)
+  pub behind_first : (before : List Attr) (d : Declr) (room : ℕ) (s : HeldScopes) (ts : List Lexeme)
+      (x : Found DeclrItem)
       → declr_behind inner before d room s ts ≡ done x → x.tree.before ≡ before
   unfolding declr_behind
   behind_first before d room s ts x e =
@@ -141,7 +159,8 @@ module _ (all : List Lexeme) (numbered : IsNumbered all) (tokens : TokenLaws all
       let c = bind_ok b.2 in
       ap (λ (x : Found DeclrItem). x.tree.before) (sym (ok_is c.2))
 
-  init_declr_sound : (before : List Attr) (kind : Kind) (room : ℕ) (s : HeldScopes) (ts : List Lexeme) (x : Found DeclrItem)
+  init_declr_sound : (before : List Attr) (kind : Kind) (room : ℕ) (s : HeldScopes) (ts : List Lexeme)
+      (x : Found DeclrItem)
       → AreAttrs all before → attrs_height before ≤ room - 1 → IsTail all ts
       → init_declr_with inner before kind room s ts ≡ done x →
       Takes all (declr_item_form all kind) room s (attrs_text all before ts) x
@@ -149,21 +168,36 @@ module _ (all : List Lexeme) (numbered : IsNumbered all) (tokens : TokenLaws all
   init_declr_sound before kind room s ts x fit low tail e =
       let a = bind_ok e in
       let i = named_declr_sound all n inner laws (Some kind) (room - 1) s ts a.0 tail a.1 in
-      let is : attrs_text all before ts ≡ attrs_text all before (declr_text all a.0.tree a.0.rest) = ap (attrs_text all before) i.spelled in
-      rw is (declr_behind_sound before a.0.tree kind room s a.0.scopes a.0.rest x fit low i.fits.0 i.fits.1 i.fits.2 i.named i.low i.left a.2)
+      let is : attrs_text all before ts ≡ attrs_text all before (declr_text all a.0.tree a.0.rest) =
+      ap (attrs_text all before) i.spelled in
+      rw is (declr_behind_sound before a.0.tree kind room s a.0.scopes a.0.rest x fit low i.fits.0 i.fits.1 i.fits.2
+      i.named i.low i.left a.2)
 
   next_declr_sound : (kind : Kind) (room token : ℕ) (s : HeldScopes) (ts : List Lexeme) (x : Found (Next DeclrItem ⊥))
       → IsTail all ts → next_init_declr inner kind room token s ts ≡ done x →
       NextTakes all (declr_item_form all kind) no_ending room token s ts x.tree x.scopes x.rest
   unfolding next_init_declr
   next_declr_sound kind room token s ts x tail e =
-      let less : length x.rest < length ts = next_declr_shrinks all tokens n inner laws kind room token s ts x (unfolded e) in
+      let less : length x.rest < length ts =
+      next_declr_shrinks all tokens n inner laws kind room token s ts x (unfolded e) in
       let a = bind_ok e in
       let b = bind_ok a.2 in
       let i = tokens.attrs_sound room s ts a.0 tail a.1 in
-      let j = init_declr_sound a.0.tree kind room a.0.scopes a.0.rest b.0 i.fits (attrs_room a.0.tree room i.low) i.left b.1 in
-      at_end (λ (x : Found (Next DeclrItem ⊥)). length x.rest < length ts → NextTakes all (declr_item_form all kind) no_ending room token s ts x.tree x.scopes x.rest) b.2
-      (λ less. (record { spelled = i.spelled ∙ j.spelled; fits = j.fits; named = subst (λ (t : HeldScopes). (declr_item_form all kind).scopes b.0.tree t ≡ Some b.0.scopes) (some_scopes s a.0.scopes i.named) j.named; low = j.low; left = j.left }, less)) less
+      let j =
+      init_declr_sound a.0.tree kind room a.0.scopes a.0.rest b.0 i.fits (attrs_room a.0.tree room i.low) i.left b.1 in
+      at_end (λ (x : Found (Next DeclrItem ⊥)). length x.rest < length ts
+      → NextTakes all (declr_item_form all kind) no_ending room token s ts x.tree x.scopes x.rest) b.2
+      (λ less. (
+        record {
+          spelled = i.spelled ∙ j.spelled;
+          fits = j.fits;
+          named = subst (λ (t : HeldScopes). (declr_item_form all kind).scopes b.0.tree t ≡ Some b.0.scopes)
+              (some_scopes s a.0.scopes i.named) j.named;
+          low = j.low;
+          left = j.left;
+        },
+        less,
+      )) less
     where
       unfolded : next_init_declr inner kind room token s ts ≡ done x
           → next_init_declr inner kind room token s ts ≡ done x
@@ -193,7 +227,8 @@ module _ (all : List Lexeme) (numbered : IsNumbered all) (tokens : TokenLaws all
   two_levels (x ∷ xs) kind room h low = let d : 1 ≤ declr_height x.declr = declr_high x.declr in omega (arith, low, d)
 
   -- declarators and the end of a declaration, behind its words
-  pub record TookDeclrs (exts : List ℕ) (words : SpecWords) (kind : Kind) (room : ℕ) (s : HeldScopes) (ts : List Lexeme) (x : Found Declaration) : Type 0 where
+  pub record TookDeclrs (exts : List ℕ) (words : SpecWords) (kind : Kind) (room : ℕ) (s : HeldScopes) (ts : List Lexeme)
+      (x : Found Declaration) : Type 0 where
     pub declrs : InitDeclrs
     pub semi : ℕ
     pub is : x.tree ≡ declaration exts words declrs semi
@@ -207,7 +242,8 @@ module _ (all : List Lexeme) (numbered : IsNumbered all) (tokens : TokenLaws all
     pub left : IsTail all x.rest
 
   -- The declarators of a declaration and its end, behind a first that was read from some start on.
-  pub declrs_sound : (exts : List ℕ) (words : SpecWords) (kind : Kind) (room : ℕ) (first : Reader DeclrItem) (s : HeldScopes) (ts : List Lexeme) (s₁ : HeldScopes) (ts₁ : List Lexeme) (x : Found Declaration) →
+  pub declrs_sound : (exts : List ℕ) (words : SpecWords) (kind : Kind) (room : ℕ) (first : Reader DeclrItem)
+      (s : HeldScopes) (ts : List Lexeme) (s₁ : HeldScopes) (ts₁ : List Lexeme) (x : Found Declaration) →
       ((a : Found DeclrItem) → first s₁ ts₁ ≡ done a → Takes all (declr_item_form all kind) (room - 1) s ts a)
       → ((a : Found DeclrItem) → first s₁ ts₁ ≡ done a → a.tree.before ≡ []) →
       declrs_with inner exts words kind room first s₁ ts₁ ≡ done x → TookDeclrs exts words kind room s ts x
@@ -215,27 +251,35 @@ module _ (all : List Lexeme) (numbered : IsNumbered all) (tokens : TokenLaws all
   declrs_sound exts words kind room first s ts s₁ ts₁ x sound starts e =
       let a = bind_ok e in
       let b = bind_ok a.2 in
-      let i = listed_sound_from first (next_init_declr inner kind (room - 1)) all numbered (declr_item_form all kind) no_ending (room - 1) (next_declr_sound kind (room - 1)) s ts s₁ ts₁ a.0 sound a.1 in
-      let q = took_token all is_semicolon (kinds.Punct puncts.Semicolon) semicolon_kind a.0.scopes a.0.rest b.0 i.left b.1 in
+      let i = listed_sound_from first (next_init_declr inner kind (room - 1)) all numbered
+      (declr_item_form all kind) no_ending (room - 1) (next_declr_sound kind (room - 1)) s ts s₁ ts₁ a.0 sound a.1 in
+      let q =
+      took_token all is_semicolon (kinds.Punct puncts.Semicolon) semicolon_kind a.0.scopes a.0.rest b.0 i.left b.1 in
       at_end (TookDeclrs exts words kind room s ts) b.2 (record {
         declrs = init_declrs_from a.0.tree.items;
         semi = b.0.tree;
         is = refl;
-        spelled = i.spelled ∙ declrs_are all kind a.0.tree.items (ending_text (declr_item_form all kind) no_ending a.0.tree.ending a.0.rest) ∙
-            ap (init_declrs_text all (init_declrs_from a.0.tree.items)) (no_end all kind a.0.tree.ending a.0.rest ∙ q.spelled);
+        spelled = i.spelled ∙ declrs_are all kind a.0.tree.items
+            (ending_text (declr_item_form all kind) no_ending a.0.tree.ending a.0.rest) ∙
+            ap (init_declrs_text all (init_declrs_from a.0.tree.items))
+            (no_end all kind a.0.tree.ending a.0.rest ∙ q.spelled);
         fits = declrs_fit all kind a.0.tree.items i.fits.1;
         starts = first_starts a.0 a.1;
         named = sym (declrs_named all kind a.0.tree.items s) ∙ i.named ∙ ap Some (sym q.same);
         low = subst (λ (h : ℕ). h ≤ room - 1) (declrs_high all kind a.0.tree.items) i.low;
-        some = some_room a.0.tree.items i.fits.0 (subst (λ (h : ℕ). h ≤ room - 1) (declrs_high all kind a.0.tree.items) i.low);
-        two = two_levels a.0.tree.items kind room i.fits.0 (subst (λ (h : ℕ). h ≤ room - 1) (declrs_high all kind a.0.tree.items) i.low);
+        some = some_room a.0.tree.items i.fits.0
+            (subst (λ (h : ℕ). h ≤ room - 1) (declrs_high all kind a.0.tree.items) i.low);
+        two = two_levels a.0.tree.items kind room i.fits.0
+            (subst (λ (h : ℕ). h ≤ room - 1) (declrs_high all kind a.0.tree.items) i.low);
         left = q.left;
       })
     where
       first_starts : (l : Found (CommaList DeclrItem ⊥))
           → listed first (next_init_declr inner kind (room - 1)) s₁ ts₁ ≡ done l
           → IsInitStart (init_declrs_from l.tree.items)
-      first_starts l e = starts_of l.tree.items (listed_keeps first (next_init_declr inner kind (room - 1)) first_bare s₁ ts₁ l starts bare_more e)
+      first_starts l e =
+          starts_of l.tree.items
+          (listed_keeps first (next_init_declr inner kind (room - 1)) first_bare s₁ ts₁ l starts bare_more e)
 
       some_room : (xs : List DeclrItem) → HasItem (declr_item_form all kind) no_ending xs
           → init_declrs_height (init_declrs_from xs) ≤ room - 1 → 1 ≤ room - 1
@@ -243,7 +287,8 @@ module _ (all : List Lexeme) (numbered : IsNumbered all) (tokens : TokenLaws all
       some_room (y ∷ xs) h low = omega (arith, low)
 
   -- a declaration behind its words, and the room for these where declarators stand
-  pub record TookBehind (exts : List ℕ) (words : SpecWords) (room : ℕ) (s : HeldScopes) (ts : List Lexeme) (x : Found Declaration) : Type 0 where
+  pub record TookBehind (exts : List ℕ) (words : SpecWords) (room : ℕ) (s : HeldScopes) (ts : List Lexeme)
+      (x : Found Declaration) : Type 0 where
     pub declrs : InitDeclrs
     pub semi : ℕ
     pub is : x.tree ≡ declaration exts words declrs semi
@@ -265,7 +310,8 @@ module _ (all : List Lexeme) (numbered : IsNumbered all) (tokens : TokenLaws all
       → init_declrs_scopes (declared_kind words) ds s ≡ Some t → words_declrs_scopes words ds s ≡ Some t
   plain_scopes words ds s t is named = rw is named
 
-  pub bare_sound : (exts : List ℕ) (words : SpecWords) (room : ℕ) (s : HeldScopes) (ts : List Lexeme) (x : Found Declaration)
+  pub bare_sound : (exts : List ℕ) (words : SpecWords) (room : ℕ) (s : HeldScopes) (ts : List Lexeme)
+      (x : Found Declaration)
       → has_auto words ≡ false → IsTail all ts → kind_at ts ≡ kinds.Punct puncts.Semicolon
       → bare_declaration inner exts words room s ts ≡ done x →
       TookBehind exts words room s ts x
@@ -325,8 +371,19 @@ module _ (all : List Lexeme) (numbered : IsNumbered all) (tokens : TokenLaws all
           let b = bind_ok r.1 in
           let o = took all (kinds.Name name) s ts b.0 tail (name_kind all (kind_at ts) name is) b.1 in
           let same = ok_is b.2 in
-          let last : present (some_declr (declr_name b.0.tree name)) t b.0.rest ≡ done x = subst (λ (d : Found Declared). present d.tree.declr d.scopes d.rest ≡ done x) (sym same) a.2 in
-          at_end (TookAuto words room s ts) last (record { spelled = o.spelled; fits = tt; is_name = refl; plain = refl; auto = λ attrs equal e. no_typedef (storage_words words) typed; named = held; one = refl; some = r.0; left = o.left })
+          let last : present (some_declr (declr_name b.0.tree name)) t b.0.rest ≡ done x =
+          subst (λ (d : Found Declared). present d.tree.declr d.scopes d.rest ≡ done x) (sym same) a.2 in
+          at_end (TookAuto words room s ts) last (record {
+            spelled = o.spelled;
+            fits = tt;
+            is_name = refl;
+            plain = refl;
+            auto = λ attrs equal e. no_typedef (storage_words words) typed;
+            named = held;
+            one = refl;
+            some = r.0;
+            left = o.left;
+          })
 
   auto_base_sound : (words : SpecWords) → has_typedef_word (storage_words words) ≡ true
       → (room : ℕ) (s : HeldScopes) (ts : List Lexeme) (x : Found Declr) → IsTail all ts
@@ -336,7 +393,17 @@ module _ (all : List Lexeme) (numbered : IsNumbered all) (tokens : TokenLaws all
       let r = fits_ok _ _ _ e in
       let b = bind_ok r.1 in
       let o = took all (kinds.Keyword keywords.BaseWord) s ts b.0 tail (base_kind (kind_at ts) is) b.1 in
-      at_end (TookAuto words room s ts) b.2 (record { spelled = o.spelled; fits = tt; is_name = refl; plain = refl; auto = λ attrs equal e. among_typedef (storage_words words) typed; named = ap Some (sym o.same); one = refl; some = r.0; left = o.left })) (λ is e.
+      at_end (TookAuto words room s ts) b.2 (record {
+        spelled = o.spelled;
+        fits = tt;
+        is_name = refl;
+        plain = refl;
+        auto = λ attrs equal e. among_typedef (storage_words words) typed;
+        named = ap Some (sym o.same);
+        one = refl;
+        some = r.0;
+        left = o.left;
+      })) (λ is e.
       absurd cc)
     where
       base_kind : (kind : TokenKind) → is_base_word kind ≡ true → kind ≡ kinds.Keyword keywords.BaseWord
@@ -363,7 +430,8 @@ module _ (all : List Lexeme) (numbered : IsNumbered all) (tokens : TokenLaws all
   auto_one : (room : ℕ) → 1 ≤ room - 2 → 1 ≤ room
   auto_one room a = omega (arith, a)
 
-  auto_sound : (exts : List ℕ) (words : SpecWords) (room : ℕ) (s : HeldScopes) (ts : List Lexeme) (x : Found Declaration)
+  auto_sound : (exts : List ℕ) (words : SpecWords) (room : ℕ) (s : HeldScopes) (ts : List Lexeme)
+      (x : Found Declaration)
       → has_auto words ≡ true → IsTail all ts → auto_behind inner exts words room s ts ≡ done x →
       TookBehind exts words room s ts x
   unfolding auto_behind auto_declr
@@ -377,36 +445,45 @@ module _ (all : List Lexeme) (numbered : IsNumbered all) (tokens : TokenLaws all
       let i = tokens.attrs_sound (room - 1) a.0.scopes a.0.rest b.0 d.left b.1 in
       let o = took_token all is_equal (kinds.Punct puncts.Equal) equal_kind b.0.scopes b.0.rest c.0 i.left c.1 in
       let j = laws.exprs.sound Assigned (room - 1 - 1) c.0.scopes c.0.rest f.0 o.left f.1 in
-      let q = took_token all is_semicolon (kinds.Punct puncts.Semicolon) semicolon_kind (release Value f.0.scopes) f.0.rest g.0 j.left g.1 in
+      let q = took_token all is_semicolon (kinds.Punct puncts.Semicolon) semicolon_kind
+      (release Value f.0.scopes) f.0.rest g.0 j.left g.1 in
       let init = some_init c.0.tree (init_value f.0.tree) in
       let ds = more_init_declrs [] a.0.tree None b.0.tree init no_init_declrs in
       let first = if is_base a.0.tree then Some s else declr_scopes (Some Value) a.0.tree s in
       let held : behind first (some_init_scopes init) ≡ Some f.0.scopes =
-      behind_is (some_init_scopes init) d.named (through (expr_scopes f.0.tree) (o.same ∙ some_scopes a.0.scopes b.0.scopes i.named) j.named refl) in
-      let named : auto_declrs_scopes ds s ≡ Some g.0.scopes = behind_is (auto_declrs_scopes no_init_declrs) (behind_is (λ t. Some (release Value t)) held refl) (ap Some (sym q.same)) in
+      behind_is (some_init_scopes init) d.named
+      (through (expr_scopes f.0.tree) (o.same ∙ some_scopes a.0.scopes b.0.scopes i.named) j.named refl) in
+      let named : auto_declrs_scopes ds s ≡ Some g.0.scopes = behind_is (auto_declrs_scopes no_init_declrs)
+      (behind_is (λ t. Some (release Value t)) held refl) (ap Some (sym q.same)) in
       at_end (TookBehind exts words room s ts) g.2 (record {
         declrs = ds;
         semi = g.0.tree;
         is = refl;
-        spelled = d.spelled ∙ ap (declr_text all a.0.tree) (i.spelled ∙ ap (attrs_text all b.0.tree) (o.spelled ∙ ap (sign_text puncts.Equal c.0.tree) (j.spelled ∙ ap (expr_text all f.0.tree) q.spelled)));
+        spelled = d.spelled ∙ ap (declr_text all a.0.tree) (i.spelled ∙ ap (attrs_text all b.0.tree) (o.spelled
+            ∙ ap (sign_text puncts.Equal c.0.tree) (j.spelled ∙ ap (expr_text all f.0.tree) q.spelled)));
         fits = (no_attrs all, d.fits, d.is_name, tt, i.fits, (j.fits.0, j.fits.1), tt, d.plain);
         starts = refl;
         named = rw auto named;
         auto = rw auto (d.auto b.0.tree c.0.tree f.0.tree);
-        low = auto_low (declr_height a.0.tree) (attrs_height b.0.tree) (expr_height f.0.tree) room d.one (attrs_room b.0.tree (room - 1) i.low) j.low d.some;
+        low = auto_low (declr_height a.0.tree) (attrs_height b.0.tree) (expr_height f.0.tree) room d.one
+            (attrs_room b.0.tree (room - 1) i.low) j.low d.some;
         words_low = inr (auto_two room d.some);
         some = auto_one room d.some;
         left = q.left;
       })
 
-  pub behind_sound : (exts : List ℕ) (words : SpecWords) (room : ℕ) (s : HeldScopes) (ts : List Lexeme) (x : Found Declaration)
+  pub behind_sound : (exts : List ℕ) (words : SpecWords) (room : ℕ) (s : HeldScopes) (ts : List Lexeme)
+      (x : Found Declaration)
       → IsTail all ts → declaration_behind inner exts words room s ts ≡ done x → TookBehind exts words room s ts x
   unfolding declaration_behind init_declr_with
   behind_sound exts words room s ts x tail e =
       if_ok (has_auto words) e (λ auto e. auto_sound exts words room s ts x auto tail e) (λ plain e.
-      if_ok (is_semicolon (kind_at ts)) e (λ is e. bare_sound exts words room s ts x plain tail (semicolon_kind (kind_at ts) is) e) (λ is e.
-      of_declrs plain (declrs_sound exts words (declared_kind words) room (init_declr_with inner [] (declared_kind words) (room - 1)) s ts s ts x
-      (λ a e. init_declr_sound [] (declared_kind words) (room - 1) s ts a (no_attrs all) (omega arith) tail e) (λ a e. bare_first a e) e)))
+      if_ok (is_semicolon (kind_at ts)) e
+      (λ is e. bare_sound exts words room s ts x plain tail (semicolon_kind (kind_at ts) is) e) (λ is e.
+      of_declrs plain (declrs_sound exts words (declared_kind words) room
+      (init_declr_with inner [] (declared_kind words) (room - 1)) s ts s ts x
+      (λ a e. init_declr_sound [] (declared_kind words) (room - 1) s ts a (no_attrs all) (omega arith) tail e)
+      (λ a e. bare_first a e) e)))
     where
       bare_first : (a : Found DeclrItem) → init_declr_with inner [] (declared_kind words) (room - 1) s ts ≡ done a
           → a.tree.before ≡ []
@@ -416,7 +493,20 @@ module _ (all : List Lexeme) (numbered : IsNumbered all) (tokens : TokenLaws all
 
       of_declrs : has_auto words ≡ false → TookDeclrs exts words (declared_kind words) room s ts x
           → TookBehind exts words room s ts x
-      of_declrs plain t = record { declrs = t.declrs; semi = t.semi; is = t.is; spelled = t.spelled; fits = t.fits; starts = t.starts; named = plain_scopes words t.declrs s x.scopes plain t.named; auto = no_auto words t.declrs plain; low = t.low; words_low = inr t.two; some = one_room room t.some; left = t.left }
+      of_declrs plain t = record {
+        declrs = t.declrs;
+        semi = t.semi;
+        is = t.is;
+        spelled = t.spelled;
+        fits = t.fits;
+        starts = t.starts;
+        named = plain_scopes words t.declrs s x.scopes plain t.named;
+        auto = no_auto words t.declrs plain;
+        low = t.low;
+        words_low = inr t.two;
+        some = one_room room t.some;
+        left = t.left;
+      }
         where
           one_room : (room : ℕ) → 1 ≤ room - 1 → 1 ≤ room
           one_room room a = omega (arith, a)
@@ -429,20 +519,33 @@ module _ (all : List Lexeme) (numbered : IsNumbered all) (tokens : TokenLaws all
   declaration_low : (a b room : ℕ) → 1 ≤ room → a ≤ room - 1 → b ≤ room - 1 → max a b + 1 ≤ room
   declaration_low a b room o p q = omega (arith, o, p, q)
 
-  pub assembled : (goes : MixesGoOn) (exts : List ℕ) (words : SpecWords) (room : ℕ) (s t : HeldScopes) (ts ts₁ : List Lexeme) (x : Found Declaration)
+  pub assembled : (goes : MixesGoOn) (exts : List ℕ) (words : SpecWords) (room : ℕ) (s t : HeldScopes)
+      (ts ts₁ : List Lexeme) (x : Found Declaration)
       → ts ≡ extensions_text exts (spec_words_text all words ts₁) → IsMix words → AreSpecWords all words →
       (is_base_word (kind_at ts₁) ≡ true → goes_on words (classes.Spells keywords.BaseWord) ≡ false)
       → spec_words_scopes words s ≡ Some t → specs_height words ≤ room - 1 → TookBehind exts words room t ts₁ x
       → Takes all (declaration_form all) room s ts x
   assembled goes exts words room s t ts ts₁ x spelled mix fit stops named low b =
-      subst (λ (d : Declaration). ts ≡ (declaration_form all).text d x.rest → IsDeclaration all d → declaration_scopes d s ≡ Some x.scopes → (declaration_form all).height d ≤ room → Takes all (declaration_form all) room s ts (found d x.scopes x.rest)) (sym b.is)
-      (λ a c d f. record { spelled = a; fits = c; named = d; low = f; left = b.left }) at_tree_text at_tree_fits at_tree_named at_tree_low
+      subst (λ (d : Declaration). ts ≡ (declaration_form all).text d x.rest → IsDeclaration all d
+      → declaration_scopes d s ≡ Some x.scopes → (declaration_form all).height d ≤ room
+      → Takes all (declaration_form all) room s ts (found d x.scopes x.rest)) (sym b.is)
+      (λ a c d f. record { spelled = a; fits = c; named = d; low = f; left = b.left }) at_tree_text at_tree_fits
+      at_tree_named at_tree_low
     where
       at_tree_text : ts ≡ (declaration_form all).text x.tree x.rest
-      at_tree_text = rw b.is (spelled ∙ ap (λ (k : List Lexeme). extensions_text exts (spec_words_text all words k)) b.spelled)
+      at_tree_text =
+          rw b.is (spelled ∙ ap (λ (k : List Lexeme). extensions_text exts (spec_words_text all words k)) b.spelled)
 
       at_tree_fits : IsDeclaration all x.tree
-      at_tree_fits = rw b.is (mix, fit, b.starts, b.fits, b.auto, base_start all goes words b.declrs (sign_text puncts.Semicolon b.semi x.rest) (λ base. stops (rw b.spelled base)) b.starts b.fits)
+      at_tree_fits = rw b.is (
+        mix,
+        fit,
+        b.starts,
+        b.fits,
+        b.auto,
+        base_start all goes words b.declrs (sign_text puncts.Semicolon b.semi x.rest)
+            (λ base. stops (rw b.spelled base)) b.starts b.fits,
+      )
 
       at_tree_named : declaration_scopes x.tree s ≡ Some x.scopes
       at_tree_named = rw b.is (behind_is (words_declrs_scopes words b.declrs) named b.named)
@@ -450,22 +553,28 @@ module _ (all : List Lexeme) (numbered : IsNumbered all) (tokens : TokenLaws all
       at_tree_low : (declaration_form all).height x.tree ≤ room
       at_tree_low = rw b.is (declaration_low (specs_height words) (init_declrs_height b.declrs) room b.some low b.low)
 
-  pub declaration_sound : (goes : MixesGoOn) (exts : List ℕ) (room : ℕ) (s : HeldScopes) (ts : List Lexeme) (x : Found Declaration)
+  pub declaration_sound : (goes : MixesGoOn) (exts : List ℕ) (room : ℕ) (s : HeldScopes) (ts : List Lexeme)
+      (x : Found Declaration)
       → IsTail all ts → declaration_with inner exts room s ts ≡ done x
       → Takes all (declaration_form all) room s (extensions_text exts ts) x
   unfolding declaration_with
   declaration_sound goes exts room s ts x tail e =
       let a = bind_ok e in
       let i = specs_here_sound all n inner laws Declaring room s ts a.0 tail a.1 in
-      assembled goes exts a.0.tree room s a.0.scopes (extensions_text exts ts) a.0.rest x (ap (extensions_text exts) i.spelled) i.fits.0 i.fits.1 (specs_here_stops all n inner laws Declaring room s ts a.0 tail a.1) i.named (inside (specs_height a.0.tree) room i.low) (behind_sound exts a.0.tree room a.0.scopes a.0.rest x i.left a.2)
+      assembled goes exts a.0.tree room s a.0.scopes (extensions_text exts ts) a.0.rest x
+      (ap (extensions_text exts) i.spelled) i.fits.0 i.fits.1
+      (specs_here_stops all n inner laws Declaring room s ts a.0 tail a.1) i.named
+      (inside (specs_height a.0.tree) room i.low) (behind_sound exts a.0.tree room a.0.scopes a.0.rest x i.left a.2)
     where
       inside : (h room : ℕ) → h + 1 ≤ room → h ≤ room - 1
       inside h room a = omega (arith, a)
 
   -- the same behind words that were read already, of two levels at most
-  pub declaration_from_sound : (goes : MixesGoOn) (known : SpecWords) (room : ℕ) (s₀ s : HeldScopes) (ts : List Lexeme) (x : Found Declaration)
+  pub declaration_from_sound : (goes : MixesGoOn) (known : SpecWords) (room : ℕ) (s₀ s : HeldScopes) (ts : List Lexeme)
+      (x : Found Declaration)
       → AreSpecWords all known → spec_words_scopes known s₀ ≡ Some s → specs_height known ≤ 2 → IsTail all ts →
-      declaration_from inner known room s ts ≡ done x → Takes all (declaration_form all) room s₀ (spec_words_text all known ts) x
+      declaration_from inner known room s ts ≡ done x
+      → Takes all (declaration_form all) room s₀ (spec_words_text all known ts) x
   unfolding declaration_from
   declaration_from_sound goes known room s₀ s ts x fit named two tail e =
       let a = bind_ok e in
@@ -477,11 +586,15 @@ module _ (all : List Lexeme) (numbered : IsNumbered all) (tokens : TokenLaws all
       of_words a w e =
           let b = behind_sound [] a.tree room a.scopes a.rest x w.left e in
           assembled goes [] a.tree room s₀ a.scopes (spec_words_text all known ts) a.rest x
-          (ap (spec_words_text all known) w.spelled ∙ sym (append_text all known w.rest a.rest) ∙ ap (λ (ws : SpecWords). spec_words_text all ws a.rest) (sym w.words_are))
-          w.mix (subst (AreSpecWords all) (sym w.words_are) (append_fits all known w.rest fit w.fits)) w.stops (ap (λ (ws : SpecWords). spec_words_scopes ws s₀) w.words_are ∙ append_scopes known w.rest s₀ s a.scopes named w.named)
-          (by_low w.low b.words_low) b
+          (ap (spec_words_text all known) w.spelled ∙ sym (append_text all known w.rest a.rest)
+          ∙ ap (λ (ws : SpecWords). spec_words_text all ws a.rest) (sym w.words_are)) w.mix
+          (subst (AreSpecWords all) (sym w.words_are) (append_fits all known w.rest fit w.fits)) w.stops
+          (ap (λ (ws : SpecWords). spec_words_scopes ws s₀) w.words_are
+          ∙ append_scopes known w.rest s₀ s a.scopes named w.named) (by_low w.low b.words_low) b
         where
           by_low : (w.rest ≡ no_words) ⊎ (specs_height a.tree ≤ room - 1)
               → (specs_height a.tree ≤ room - 1) ⊎ (2 ≤ room - 1) → specs_height a.tree ≤ room - 1
           by_low (inr low) c = low
-          by_low (inl none) c = words_two (specs_height a.tree) room c (subst (λ (ws : SpecWords). specs_height ws ≤ 2) (sym (w.words_are ∙ ap (append_words known) none ∙ append_none known)) two)
+          by_low (inl none) c =
+              words_two (specs_height a.tree) room c (subst (λ (ws : SpecWords). specs_height ws ≤ 2)
+              (sym (w.words_are ∙ ap (append_words known) none ∙ append_none known)) two)

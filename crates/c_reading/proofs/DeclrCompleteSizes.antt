@@ -10,6 +10,7 @@ use Rattle.c_tree.specs.Text.{sign_text, operator_text, expr_text, some_size_tex
 use Rattle.c_tree.specs.Height.{some_size_height}
 use Rattle.c_tree.specs.Levels.{expr_level}
 use Rattle.c_tree.specs.WellFormed.{IsExpr, IsSize}
+use Rattle.c_ops.proofs.Levels.{level_most}
 use Rattle.c_units.specs.HeldScopes.{HeldScopes}
 use Rattle.c_units.specs.Scoping.{behind, expr_scopes, operator_scopes, some_size_scopes}
 use Rattle.c_reading.specs.declared.kinds.Reach.TheVariants.{Assigned}
@@ -21,7 +22,6 @@ use Rattle.c_reading.specs.Declaring.{star_size, size_with}
 use Rattle.c_reading.proofs.Binding.{found, done, bind_is}
 use Rattle.c_reading.proofs.Forms.{behind_ok}
 use Rattle.c_reading.proofs.KindFacts.{expr_no_close_bracket}
-use Rattle.c_reading.proofs.Firsts.{operator_most}
 use Rattle.c_reading.proofs.Aims.{star_begins, behind_star, FirstLaws, Laws, ends_expr}
 
 star_punct : (p : Punct) → is_star (kinds.Punct p) ≡ true → p ≡ puncts.Star
@@ -37,7 +37,7 @@ module _ (all : List Lexeme) where
   -- what holds together as tightly as a postfix form begins with no star
   high_no_star : (e : Expr) (k : List Lexeme) → IsExpr all e → 15 ≤ expr_level e
       → is_star (kind_at (expr_text all e k)) ≡ false
-  high_no_star (operation e op token e2) k fits high = let most = operator_most op in absurd (omega (arith, most, high))
+  high_no_star (operation e op token e2) k fits high = let most = level_most op in absurd (omega (arith, most, high))
   high_no_star (cast opening ws d closing e) k fits high = refl
   high_no_star (prefix token p e) k fits high = absurd (omega (arith, high))
   high_no_star (sizeof_value word e) k fits high = refl
@@ -98,8 +98,10 @@ module _ (all : List Lexeme) where
         spelled = ap (λ (p : Punct). sign_text p token (expr_text all e k)) same;
         more = λ firsts s s' named. firsts.expr_begins e s s' k fits.0 named;
       }
-  star_first (index e opening e2 closing) k fits is = no_star (high_no_star (index e opening e2 closing) k fits (omega arith)) is
-  star_first (call e opening es closing) k fits is = no_star (high_no_star (call e opening es closing) k fits (omega arith)) is
+  star_first (index e opening e2 closing) k fits is =
+      no_star (high_no_star (index e opening e2 closing) k fits (omega arith)) is
+  star_first (call e opening es closing) k fits is =
+      no_star (high_no_star (call e opening es closing) k fits (omega arith)) is
   star_first (dot e token name) k fits is = no_star (high_no_star (dot e token name) k fits (omega arith)) is
   star_first (arrow e token name) k fits is = no_star (high_no_star (arrow e token name) k fits (omega arith)) is
   star_first (post e token p) k fits is = no_star (high_no_star (post e token p) k fits (omega arith)) is
@@ -110,30 +112,38 @@ module _ (all : List Lexeme) where
     star_complete : (e : Expr) (room : ℕ) → room - 1 < n → (s s' : HeldScopes) (k : List Lexeme) (h : Starred e k)
         → is_close_bracket (kind_at k) ≡ true → ends_expr Assigned (kind_at k) ≡ true
         → IsSize all (some_size (size_value e)) →
-        some_size_scopes (some_size (size_value e)) s ≡ Some s' → some_size_height (some_size (size_value e)) ≤ room - 1 →
-        star_size inner room s (sign_text puncts.Star h.token (behind_star all e k)) ≡ done (found (some_size (size_value e)) s' k)
+        some_size_scopes (some_size (size_value e)) s ≡ Some s'
+        → some_size_height (some_size (size_value e)) ≤ room - 1 →
+        star_size inner room s (sign_text puncts.Star h.token (behind_star all e k))
+        ≡ done (found (some_size (size_value e)) s' k)
     unfolding star_size and_then
     star_complete e room less s s' k h closing ended fits named low =
         let begun = h.more firsts s s' named in
         rw (expr_no_close_bracket s (kind_at (behind_star all e k)) begun)
-        (bind_is _ (laws.exprs.begun_complete Assigned (begun_star h.token) (room - 1) refl less e s s' k fits.0 fits.1 h.begun named low ended) refl)
+        (bind_is _ (laws.exprs.begun_complete Assigned (begun_star h.token)
+        (room - 1) refl less e s s' k fits.0 fits.1 h.begun named low ended) refl)
 
     pub size_complete : (size : SomeSize) (room : ℕ) → room ≤ n → 1 ≤ room
         → (s s' : HeldScopes) (closing : ℕ) (k : List Lexeme) → IsSize all size → some_size_scopes size s ≡ Some s'
         → some_size_height size ≤ room - 1 →
-        size_with inner room s (some_size_text all size (sign_text puncts.CloseBracket closing k)) ≡ done (found size s' (sign_text puncts.CloseBracket closing k))
+        size_with inner room s (some_size_text all size (sign_text puncts.CloseBracket closing k))
+        ≡ done (found size s' (sign_text puncts.CloseBracket closing k))
     unfolding size_with star_size and_then
-    size_complete no_size room less least s s' closing k fits named low = ap (λ (u : Option HeldScopes). done (found no_size (from u) (sign_text puncts.CloseBracket closing k))) named
+    size_complete no_size room less least s s' closing k fits named low =
+        ap (λ (u : Option HeldScopes). done (found no_size (from u) (sign_text puncts.CloseBracket closing k))) named
       where
         from : Option HeldScopes → HeldScopes
         from None = s
         from (Some t) = t
-    size_complete (some_size (size_star token)) room less least s s' closing k fits named low = ap (λ (u : Option HeldScopes). done (found (some_size (size_star token)) (from u) (sign_text puncts.CloseBracket closing k))) named
+    size_complete (some_size (size_star token)) room less least s s' closing k fits named low =
+        ap (λ (u : Option HeldScopes). done
+        (found (some_size (size_star token)) (from u) (sign_text puncts.CloseBracket closing k))) named
       where
         from : Option HeldScopes → HeldScopes
         from None = s
         from (Some t) = t
-    size_complete (some_size (size_value e)) room less least s s' closing k fits named low = by_star (is_star (kind_at (expr_text all e last))) refl
+    size_complete (some_size (size_value e)) room less least s s' closing k fits named low =
+        by_star (is_star (kind_at (expr_text all e last))) refl
       where
         last : List Lexeme
         last = sign_text puncts.CloseBracket closing k
@@ -148,4 +158,5 @@ module _ (all : List Lexeme) where
             rw h.spelled (star_complete e room few s s' last h refl refl fits named low)
         by_star false is =
             let begun = firsts.expr_begins e s s' last fits.0 named in
-            rw (expr_no_close_bracket s (kind_at (expr_text all e last)) begun, is) (bind_is _ (laws.exprs.complete Assigned (room - 1) few e s s' last fits named low refl) refl)
+            rw (expr_no_close_bracket s (kind_at (expr_text all e last)) begun, is)
+            (bind_is _ (laws.exprs.complete Assigned (room - 1) few e s s' last fits named low refl) refl)

@@ -24,7 +24,8 @@ use Rattle.c_reading.proofs.Aims.{Laws, TokenLaws}
 
 pub identifier_shrinks : Shrinks identifier_at
 identifier_shrinks s ts x e =
-    if_ok (is_identifier s (spelled_name (kind_at ts))) e (λ is e. omega (arith, name_falls s ts x e)) (λ is e. absurd cc)
+    if_ok (is_identifier s (spelled_name (kind_at ts))) e (λ is e. omega (arith, name_falls s ts x e))
+    (λ is e. absurd cc)
 
 module _ (all : List Lexeme) (tokens : TokenLaws all) (n : ℕ) (inner : Inner) (laws : Laws all n inner) where
   end_is : {A : Type 0} {x y : Found A} → done x ≡ done y → length x.rest ≡ length y.rest
@@ -56,7 +57,14 @@ module _ (all : List Lexeme) (tokens : TokenLaws all) (n : ℕ) (inner : Inner) 
       let b = bind_ok a.2 in
       let c = bind_ok b.2 in
       let f = bind_ok c.2 in
-      omega (arith, take_falls _ _ _ a.1, tokens.array_words_falls _ _ _ b.1, size_falls room _ _ _ c.1, token_falls is_close_bracket _ _ _ f.1, end_is f.2)
+      omega (
+        arith,
+        take_falls _ _ _ a.1,
+        tokens.array_words_falls _ _ _ b.1,
+        size_falls room _ _ _ c.1,
+        token_falls is_close_bracket _ _ _ f.1,
+        end_is f.2,
+      )
 
   param_attrs_falls : (d : SomeDeclr) (room : ℕ) → Falls (param_attrs inner d room)
   param_attrs_falls d room s ts x e =
@@ -72,7 +80,13 @@ module _ (all : List Lexeme) (tokens : TokenLaws all) (n : ℕ) (inner : Inner) 
       let a = bind_ok e in
       let b = bind_ok a.2 in
       let c = bind_ok b.2 in
-      omega (arith, param_words_falls known room _ _ _ a.1, laws.declrs.falls _ _ _ _ _ _ _ b.1, param_attrs_falls b.0.tree.declr room _ _ _ c.1, end_is c.2)
+      omega (
+        arith,
+        param_words_falls known room _ _ _ a.1,
+        laws.declrs.falls _ _ _ _ _ _ _ b.1,
+        param_attrs_falls b.0.tree.declr room _ _ _ c.1,
+        end_is c.2,
+      )
 
   pub param_shrinks : (room : ℕ) → Shrinks (param_with inner no_words room)
   unfolding param_with
@@ -80,7 +94,13 @@ module _ (all : List Lexeme) (tokens : TokenLaws all) (n : ℕ) (inner : Inner) 
       let a = bind_ok e in
       let b = bind_ok a.2 in
       let c = bind_ok b.2 in
-      omega (arith, specs_here_shrinks all n inner laws Typed room _ _ _ a.1, laws.declrs.falls _ _ _ _ _ _ _ b.1, param_attrs_falls b.0.tree.declr room _ _ _ c.1, end_is c.2)
+      omega (
+        arith,
+        specs_here_shrinks all n inner laws Typed room _ _ _ a.1,
+        laws.declrs.falls _ _ _ _ _ _ _ b.1,
+        param_attrs_falls b.0.tree.declr room _ _ _ c.1,
+        end_is c.2,
+      )
 
   pub next_param_falls : (room comma : ℕ) → Falls (next_param inner room comma)
   unfolding next_param
@@ -88,7 +108,8 @@ module _ (all : List Lexeme) (tokens : TokenLaws all) (n : ℕ) (inner : Inner) 
       let a = bind_ok e in
       if_ok (is_dots (kind_at a.0.rest)) a.2
       (λ is e. let b = bind_ok e in omega (arith, tokens.quals_falls _ _ _ a.1, take_falls _ _ _ b.1, end_is b.2))
-      (λ is e. let b = bind_ok e in omega (arith, tokens.quals_falls _ _ _ a.1, param_falls (words_of_quals a.0.tree) room _ _ _ b.1, end_is b.2))
+      (λ is e. let b = bind_ok e in
+      omega (arith, tokens.quals_falls _ _ _ a.1, param_falls (words_of_quals a.0.tree) room _ _ _ b.1, end_is b.2))
 
   listed_falls : {T E : Type 0} (first : Reader T) (next : ℕ → Reader (Next T E)) → Falls first
       → ((comma : ℕ) → Falls (next comma)) → Falls (listed first next)
@@ -97,7 +118,8 @@ module _ (all : List Lexeme) (tokens : TokenLaws all) (n : ℕ) (inner : Inner) 
       let a = bind_ok e in
       let less : length a.0.rest ≤ length ts = first_falls s ts a.0 a.1 in
       run-keep (comma_turn next) (λ l s k. length k ≤ length ts)
-      (λ l s k x h e. let less : length x.rest < length k = comma_turn_shrinks first next next_falls l s k x e in omega arith)
+      (λ l s k x h e.
+      let less : length x.rest < length k = comma_turn_shrinks first next next_falls l s k x e in omega arith)
       (record { items = a.0.tree ∷ []; ending = None }) a.0.scopes a.0.rest x less a.2
 
   pub params_falls : (lead : List Attr) (room : ℕ) → Falls (params_with inner lead room)
@@ -105,7 +127,8 @@ module _ (all : List Lexeme) (tokens : TokenLaws all) (n : ℕ) (inner : Inner) 
   params_falls lead room s ts x e =
       if_ok (are_none lead && is_close_paren (kind_at ts)) e
       (λ is e. omega (arith, end_is e))
-      (λ is e. listed_falls (param_with inner (words_of_attrs lead) room) (next_param inner room) (param_falls (words_of_attrs lead) room) (next_param_falls room) s ts x e)
+      (λ is e. listed_falls (param_with inner (words_of_attrs lead) room) (next_param inner room)
+      (param_falls (words_of_attrs lead) room) (next_param_falls room) s ts x e)
 
   pub prototype_shrinks : (d : Declared) (opening : ℕ) (lead : List Attr) (room : ℕ)
       → Shrinks (prototype_with inner d opening lead room)
@@ -122,7 +145,11 @@ module _ (all : List Lexeme) (tokens : TokenLaws all) (n : ℕ) (inner : Inner) 
   unfolding names_list
   names_shrink s ts x e =
       let a = bind_ok e in
-      omega (arith, listed_shrinks identifier_at (next_name identifier_at) next_name_falls identifier_shrinks _ _ _ a.1, end_is a.2)
+      omega (
+        arith,
+        listed_shrinks identifier_at (next_name identifier_at) next_name_falls identifier_shrinks _ _ _ a.1,
+        end_is a.2,
+      )
 
   identifiers_shrink : (d : Declr) (opening : ℕ) → Shrinks (identifiers_with inner d opening)
   unfolding identifiers_with
@@ -137,7 +164,8 @@ module _ (all : List Lexeme) (tokens : TokenLaws all) (n : ℕ) (inner : Inner) 
   list_shrinks true d opening room s ts x e = by_declr d.declr e
     where
       by_declr : (inside : SomeDeclr)
-          → identifiers_of inside (λ inside. identifiers_with inner inside opening s ts) (prototype_with inner d opening [] room s ts) ≡ done x
+          → identifiers_of inside (λ inside. identifiers_with inner inside opening s ts)
+          (prototype_with inner d opening [] room s ts) ≡ done x
           → length x.rest < length ts
       by_declr no_declr e = prototype_shrinks d opening [] room s ts x e
       by_declr (some_declr inside) e = identifiers_shrink inside opening s ts x e
@@ -151,17 +179,26 @@ module _ (all : List Lexeme) (tokens : TokenLaws all) (n : ℕ) (inner : Inner) 
       some_is e = cc
 
       by_paren : (b : Bool)
-          → (if b then Some (fits (suc (some_declr_height d.declr)) (room_at flag room d (kind_at ts)) ts (params_behind inner flag d (room_at flag room d (kind_at ts)) s ts)) else None) ≡ Some (done x)
+          → (if b then Some (fits (suc (some_declr_height d.declr)) (room_at flag room d (kind_at ts)) ts
+          (params_behind inner flag d (room_at flag room d (kind_at ts)) s ts)) else None) ≡ Some (done x)
           → length x.rest < length ts
       by_paren true e =
           let r = fits_ok (suc (some_declr_height d.declr)) (room_at flag room d (kind_at ts)) ts (some_is e) in
           let a = bind_ok r.1 in
-          omega (arith, take_falls _ _ _ a.1, list_shrinks (flag && is_bare d.declr && begins_identifiers a.0.scopes (kind_at a.0.rest)) d a.0.tree (room_at flag room d (kind_at ts)) _ _ _ a.2)
+          omega (
+            arith,
+            take_falls _ _ _ a.1,
+            list_shrinks (flag && is_bare d.declr && begins_identifiers a.0.scopes (kind_at a.0.rest)) d a.0.tree
+                (room_at flag room d (kind_at ts)) _ _ _ a.2,
+          )
       by_paren false e = absurd cc
 
       by_bracket : (b : Bool)
-          → (if b then Some (fits (suc (some_declr_height d.declr)) (room_at flag room d (kind_at ts)) ts (array_with inner d (room_at flag room d (kind_at ts)) s ts))
-          else if is_open_paren (kind_at ts) then Some (fits (suc (some_declr_height d.declr)) (room_at flag room d (kind_at ts)) ts (params_behind inner flag d (room_at flag room d (kind_at ts)) s ts)) else None) ≡ Some (done x) → length x.rest < length ts
+          → (if b then Some (fits (suc (some_declr_height d.declr)) (room_at flag room d (kind_at ts)) ts
+          (array_with inner d (room_at flag room d (kind_at ts)) s ts))
+          else if is_open_paren (kind_at ts) then Some (fits (suc (some_declr_height d.declr))
+          (room_at flag room d (kind_at ts)) ts (params_behind inner flag d (room_at flag room d (kind_at ts)) s ts))
+          else None) ≡ Some (done x) → length x.rest < length ts
       by_bracket true e =
           let r = fits_ok (suc (some_declr_height d.declr)) (room_at flag room d (kind_at ts)) ts (some_is e) in
           array_shrinks d (room_at flag room d (kind_at ts)) s ts x r.1
@@ -175,7 +212,13 @@ module _ (all : List Lexeme) (tokens : TokenLaws all) (n : ℕ) (inner : Inner) 
       let b = bind_ok a.2 in
       let c = bind_ok b.2 in
       let p = present_ok a.0.tree.declr a.0.scopes a.0.rest b.0 b.1 in
-      omega (arith, laws.declrs.falls _ _ _ _ _ _ _ a.1, ap (λ (x : Found Declr). length x.rest) p.1, token_falls is_close_paren _ _ _ c.1, end_is c.2)
+      omega (
+        arith,
+        laws.declrs.falls _ _ _ _ _ _ _ a.1,
+        ap (λ (x : Found Declr). length x.rest) p.1,
+        token_falls is_close_paren _ _ _ c.1,
+        end_is c.2,
+      )
 
   named_paren_shrinks : (wanted : Option Kind) (flag : Bool) (room : ℕ) → Shrinks (named_paren inner wanted flag room)
   unfolding named_paren
@@ -183,7 +226,12 @@ module _ (all : List Lexeme) (tokens : TokenLaws all) (n : ℕ) (inner : Inner) 
       let r = fits_ok 2 room ts e in
       let a = bind_ok r.1 in
       let b = bind_ok a.2 in
-      omega (arith, take_falls _ _ _ a.1, tokens.attrs_falls room _ _ _ b.1, paren_shrinks Named wanted flag a.0.tree b.0.tree room _ _ _ b.2)
+      omega (
+        arith,
+        take_falls _ _ _ a.1,
+        tokens.attrs_falls room _ _ _ b.1,
+        paren_shrinks Named wanted flag a.0.tree b.0.tree room _ _ _ b.2,
+      )
 
   opened_by_shrinks : (mode : Mode) (wanted : Option Kind) (flag : Bool) (opening : ℕ) (attrs : List Attr) (room : ℕ)
       → Shrinks (opened_by inner mode wanted flag opening attrs room)
@@ -202,7 +250,12 @@ module _ (all : List Lexeme) (tokens : TokenLaws all) (n : ℕ) (inner : Inner) 
       let r = fits_ok 1 room ts e in
       let a = bind_ok r.1 in
       let b = bind_ok a.2 in
-      omega (arith, take_falls _ _ _ a.1, tokens.attrs_falls room _ _ _ b.1, opened_by_shrinks mode wanted flag a.0.tree b.0.tree room _ _ _ b.2)
+      omega (
+        arith,
+        take_falls _ _ _ a.1,
+        tokens.attrs_falls room _ _ _ b.1,
+        opened_by_shrinks mode wanted flag a.0.tree b.0.tree room _ _ _ b.2,
+      )
 
   some_paren_shrinks : (mode : Mode) (wanted : Option Kind) (flag : Bool) (room : ℕ)
       → Shrinks (some_paren inner mode wanted flag room)
@@ -210,7 +263,8 @@ module _ (all : List Lexeme) (tokens : TokenLaws all) (n : ℕ) (inner : Inner) 
   some_paren_shrinks Abstract wanted flag room s ts x e = opened_shrinks Abstract wanted flag room s ts x e
   some_paren_shrinks Either wanted flag room s ts x e = opened_shrinks Either wanted flag room s ts x e
 
-  pub name_held_shrinks : (name room : ℕ) (held : Option HeldScopes) (s : HeldScopes) (ts : List Lexeme) (x : Found Declared)
+  pub name_held_shrinks : (name room : ℕ) (held : Option HeldScopes) (s : HeldScopes) (ts : List Lexeme)
+      (x : Found Declared)
       → name_held name room held s ts ≡ done x → length x.rest < length ts
   name_held_shrinks name room None s ts x e = absurd cc
   name_held_shrinks name room (Some held) s ts x e =
@@ -264,7 +318,8 @@ module _ (all : List Lexeme) (tokens : TokenLaws all) (n : ℕ) (inner : Inner) 
   suffixes_fall : (flag : Bool) (room : ℕ) (d : Declared) → Falls (λ s ts. run (suffix_turn inner flag room) d s ts)
   suffixes_fall flag room d s ts x e =
       run-keep (suffix_turn inner flag room) (λ d s k. length k ≤ length ts)
-      (λ d s k x h e. let less : length x.rest < length k = suffix_shrinks flag room d s k x e in omega arith) d s ts x (omega arith) e
+      (λ d s k x h e. let less : length x.rest < length k = suffix_shrinks flag room d s k x e in
+      omega arith) d s ts x (omega arith) e
 
   pointer_shrinks : (mode : Mode) (wanted : Option Kind) (flag : Bool) (room : ℕ)
       → Shrinks (pointer_with inner mode wanted flag room)
@@ -274,7 +329,13 @@ module _ (all : List Lexeme) (tokens : TokenLaws all) (n : ℕ) (inner : Inner) 
       let a = bind_ok r.1 in
       let b = bind_ok a.2 in
       let c = bind_ok b.2 in
-      omega (arith, take_falls _ _ _ a.1, tokens.pointer_words_falls room _ _ _ b.1, laws.declrs.falls _ _ _ _ _ _ _ c.1, end_is c.2)
+      omega (
+        arith,
+        take_falls _ _ _ a.1,
+        tokens.pointer_words_falls room _ _ _ b.1,
+        laws.declrs.falls _ _ _ _ _ _ _ c.1,
+        end_is c.2,
+      )
 
   pub declr_falls : (mode : Mode) (wanted : Option Kind) (flag : Bool) (room : ℕ)
       → Falls (declr_with inner mode wanted flag room)

@@ -32,12 +32,16 @@ module _ (all : List Lexeme) where
   other_params_are : (xs : List ParamItem) (k : List Lexeme)
       → others_text (param_form all) dots_ending xs k ≡ other_params_text all (params_from xs) k
   other_params_are [] k = refl
-  other_params_are (x ∷ xs) k = ap (λ (k : List Lexeme). separated (spec_words_text all x.words (some_declr_text all x.declr (attrs_text all x.attrs k)))) (other_params_are xs k)
+  other_params_are (x ∷ xs) k =
+      ap (λ (k : List Lexeme). separated
+      (spec_words_text all x.words (some_declr_text all x.declr (attrs_text all x.attrs k)))) (other_params_are xs k)
 
   pub params_are : (xs : List ParamItem) (k : List Lexeme)
       → commas_text (param_form all) dots_ending xs k ≡ params_text all (params_from xs) k
   params_are [] k = refl
-  params_are (x ∷ xs) k = ap (λ (k : List Lexeme). spec_words_text all x.words (some_declr_text all x.declr (attrs_text all x.attrs k))) (other_params_are xs k)
+  params_are (x ∷ xs) k =
+      ap (λ (k : List Lexeme). spec_words_text all x.words (some_declr_text all x.declr (attrs_text all x.attrs k)))
+      (other_params_are xs k)
 
   pub ending_is : (o : Option Dots) (k : List Lexeme) → ending_text (param_form all) dots_ending o k ≡ dots_text all o k
   ending_is None k = refl
@@ -71,8 +75,10 @@ module _ (all : List Lexeme) where
       → row_scopes (param_form all) xs s ≡ params_scopes (params_from xs) s
   params_named [] s = refl
   params_named (x ∷ xs) s =
-      step_same (behind (behind (spec_words_scopes x.words s) (λ t. where_true (some_shows_no_type t x.declr) t)) (some_declr_scopes (Some Value) x.declr)) (release Value) (row_scopes (param_form all) xs) ∙
-      behind_same (behind (behind (spec_words_scopes x.words s) (λ t. where_true (some_shows_no_type t x.declr) t)) (some_declr_scopes (Some Value) x.declr)) _ _ (λ t. params_named xs (release Value t))
+      step_same (behind (behind (spec_words_scopes x.words s) (λ t. where_true (some_shows_no_type t x.declr) t))
+      (some_declr_scopes (Some Value) x.declr)) (release Value) (row_scopes (param_form all) xs) ∙
+      behind_same (behind (behind (spec_words_scopes x.words s) (λ t. where_true (some_shows_no_type t x.declr) t))
+      (some_declr_scopes (Some Value) x.declr)) _ _ (λ t. params_named xs (release Value t))
 
   pub params_high : (xs : List ParamItem) → row_height (param_form all) xs ≡ params_height (params_from xs)
   params_high [] = refl

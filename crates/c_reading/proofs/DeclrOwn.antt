@@ -17,6 +17,7 @@ use Rattle.c_reading.proofs.Aims.{own_scope_in, some_own_params, closed_of}
 
 -- declarators without a name have no parameters around one
 
+-- a declarator without a name has no parameters directly around one
 pub own_none : (d : Declr) → is_named d ≡ false → own_params d ≡ None
 own_none (pointer sign words d) e = absurd cc
 own_none (declr_name token name) e = absurd cc
@@ -30,6 +31,7 @@ own_none (abs_paren opening attrs d closing) e = refl
 own_none (abs_array d opening words size closing) e = refl
 own_none (abs_params d opening ps dots closing) e = refl
 
+-- a declarator without a name is not a bare name
 pub bare_none : (d : Declr) → is_named d ≡ false → bare_name d ≡ None
 bare_none (pointer sign words d) e = absurd cc
 bare_none (declr_name token name) e = absurd cc
@@ -45,6 +47,7 @@ bare_none (abs_params d opening ps dots closing) e = refl
 
 -- what stands in a pointer, parentheses, brackets has the parameters around its name
 
+-- a pointer has the parameters around the name that what it points from has
 pub own_pointer : (token : ℕ) (words : List PointerWord) (d : SomeDeclr)
     → own_params (with_pointer token words d) ≡ some_own_params d
 own_pointer token words no_declr = refl
@@ -55,22 +58,26 @@ own_pointer token words (some_declr d) = either (is_named d) refl
     either true is = refl
     either false is = sym (own_none d is)
 
+-- a declarator in parentheses has the parameters around the name that it has without them
 pub own_paren : (opening : ℕ) (attrs : List Attr) (d : Declr) (closing : ℕ)
     → own_params (with_paren opening attrs d closing) ≡ own_params d
 own_paren opening attrs d closing = either (is_named d) refl
   where
     either : (b : Bool) → is_named d ≡ b
-        → own_params (if b then declr_paren opening attrs d closing else abs_paren opening attrs d closing) ≡ own_params d
+        → own_params (if b then declr_paren opening attrs d closing else abs_paren opening attrs d closing)
+        ≡ own_params d
     either true is = refl
     either false is = sym (own_none d is)
 
+-- an array has the parameters around the name that its declarator has
 pub own_array : (d : SomeDeclr) (opening : ℕ) (words : List ArrayWord) (size : SomeSize) (closing : ℕ)
     → own_params (with_array d opening words size closing) ≡ some_own_params d
 own_array no_declr opening words size closing = refl
 own_array (some_declr d) opening words size closing = either (is_named d) refl
   where
     either : (b : Bool) → is_named d ≡ b
-        → own_params (if b then array d opening words size closing else abs_array (some_declr d) opening words size closing) ≡ own_params d
+        → own_params (if b then array d opening words size closing
+        else abs_array (some_declr d) opening words size closing) ≡ own_params d
     either true is = refl
     either false is = sym (own_none d is)
 
@@ -79,13 +86,15 @@ abbrev pub some_bare : SomeDeclr → Option ℕ
 some_bare no_declr = None
 some_bare (some_declr d) = bare_name d
 
+-- parameters behind a bare name are those around it; behind other declarators those inside stay
 pub own_with_params : (d : SomeDeclr) (opening : ℕ) (ps : Params) (dots : Option Dots) (closing : ℕ)
     → own_params (with_params d opening ps dots closing) ≡ or_those_of (some_bare d) ps (some_own_params d)
 own_with_params no_declr opening ps dots closing = refl
 own_with_params (some_declr d) opening ps dots closing = either (is_named d) refl
   where
     either : (b : Bool) → is_named d ≡ b
-        → own_params (if b then params d opening ps dots closing else abs_params (some_declr d) opening ps dots closing) ≡ or_those_of (bare_name d) ps (own_params d)
+        → own_params (if b then params d opening ps dots closing else abs_params (some_declr d) opening ps dots closing)
+        ≡ or_those_of (bare_name d) ps (own_params d)
     either true is = refl
     either false is = rw (bare_none d is, own_none d is) refl
 
@@ -108,32 +117,39 @@ bare_scopes wanted (abs_array d opening words size closing) name s e = absurd cc
 bare_scopes wanted (abs_params d opening ps dots closing) name s e = absurd cc
 
 -- the scope that the parameters directly around the name close
-pub closed_with_params : (wanted : Option Kind) (d : SomeDeclr) (opening : ℕ) (ps : Params) (dots : Option Dots) (closing : ℕ) (s t u : HeldScopes)
+pub closed_with_params : (wanted : Option Kind) (d : SomeDeclr) (opening : ℕ) (ps : Params) (dots : Option Dots)
+    (closing : ℕ) (s t u : HeldScopes)
     → some_declr_scopes wanted d s ≡ Some t → params_scopes ps (enter t) ≡ Some u →
-    closed_by d (innermost u) (closed_of wanted d s) ≡ closed_of wanted (some_declr (with_params d opening ps dots closing)) s
+    closed_by d (innermost u) (closed_of wanted d s)
+    ≡ closed_of wanted (some_declr (with_params d opening ps dots closing)) s
 closed_with_params wanted d opening ps dots closing s t u named inside =
-    by_bare d named ∙ ap (λ (o : Option OwnParams). option_map innermost (own_scope_in wanted o s)) (sym (own_with_params d opening ps dots closing))
+    by_bare d named ∙ ap (λ (o : Option OwnParams). option_map innermost (own_scope_in wanted o s))
+    (sym (own_with_params d opening ps dots closing))
   where
     by_name : (d : Declr) (o : Option ℕ) → bare_name d ≡ o → declr_scopes wanted d s ≡ Some t →
-        (if is_some o then Some (innermost u) else closed_of wanted (some_declr d) s) ≡ option_map innermost (own_scope_in wanted (or_those_of o ps (own_params d)) s)
+        (if is_some o then Some (innermost u) else closed_of wanted (some_declr d) s)
+        ≡ option_map innermost (own_scope_in wanted (or_those_of o ps (own_params d)) s)
     by_name d None is named = refl
     by_name d (Some name) is named =
         let at : at_name wanted name s ≡ Some t = sym (bare_scopes wanted d name s is) ∙ named in
         sym (ap (option_map innermost) (behind_is (λ (t : HeldScopes). params_scopes ps (enter t)) at inside))
 
     by_bare : (d : SomeDeclr) → some_declr_scopes wanted d s ≡ Some t →
-        closed_by d (innermost u) (closed_of wanted d s) ≡ option_map innermost (own_scope_in wanted (or_those_of (some_bare d) ps (some_own_params d)) s)
+        closed_by d (innermost u) (closed_of wanted d s)
+        ≡ option_map innermost (own_scope_in wanted (or_those_of (some_bare d) ps (some_own_params d)) s)
     by_bare no_declr named = refl
     by_bare (some_declr d) named = by_name d (bare_name d) refl named
 
 -- behind a list of identifiers, the scope of the declarations has no names yet
-pub closed_with_identifiers : (wanted : Option Kind) (d : Declr) (opening : ℕ) (names : List Identifier) (closing : ℕ) (s t : HeldScopes)
+pub closed_with_identifiers : (wanted : Option Kind) (d : Declr) (opening : ℕ) (names : List Identifier) (closing : ℕ)
+    (s t : HeldScopes)
     → is_some (bare_name d) ≡ true → declr_scopes wanted d s ≡ Some t →
     Some (new_scope (is_wide t)) ≡ closed_of wanted (some_declr (identifiers d opening names closing)) s
 closed_with_identifiers wanted d opening names closing s t bare named = by_name (bare_name d) refl bare
   where
     by_name : (o : Option ℕ) → bare_name d ≡ o → is_some o ≡ true
-        → Some (new_scope (is_wide t)) ≡ option_map innermost (own_scope_in wanted (or_those_of o no_params (own_params d)) s)
+        → Some (new_scope (is_wide t))
+        ≡ option_map innermost (own_scope_in wanted (or_those_of o no_params (own_params d)) s)
     by_name None is bare = absurd cc
     by_name (Some name) is bare =
         let at : at_name wanted name s ≡ Some t = sym (bare_scopes wanted d name s is) ∙ named in
@@ -153,6 +169,7 @@ bare_is (abs_paren opening attrs d closing) e = absurd cc
 bare_is (abs_array d opening words size closing) e = absurd cc
 bare_is (abs_params d opening ps dots closing) e = absurd cc
 
+-- a declarator that is a bare name has a name
 pub bare_named : (d : Declr) → is_some (bare_name d) ≡ true → is_named d ≡ true
 bare_named d bare = by_named (is_named d) refl
   where

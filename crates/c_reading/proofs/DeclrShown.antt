@@ -1,6 +1,7 @@
 -- The laws of the readers of declarators and of names of types.
 use Rattle.std.proofs.Common.{◌≡◌, ℕ, suc, ◌<◌, ◌≤◌, Bool, true, false, List, Option, Some, None, inl, inr, refl, sym, ◌∙◌, ap, subst, arith}
 use Rattle.std.specs.Prelude.{◌+◌, ◌-◌, max, not, ◌&&◌, ◌⊎◌, All, is_some, option_map, if◌then◌else◌}
+use Rattle.qual_base.proofs.Tests.{and_second, and_first}
 use Rattle.c_words.specs.declared.kinds.TokenKind.{TokenKind}
 use Rattle.c_words.specs.declared.kinds.TokenKind.TheVariants as kinds
 use Rattle.c_words.specs.declared.kinds.Keyword.TheVariants as keywords
@@ -26,16 +27,18 @@ use Rattle.c_reading.specs.Declaring.{names_base, takes_name, least_pointer, wit
 use Rattle.c_reading.proofs.Binding.{found, done, bind_ok, bind_is, fits_is}
 use Rattle.c_reading.proofs.Loops.{run_ends}
 use Rattle.c_reading.proofs.Forms.{Takes, IsSound, IsComplete, at_end, behind_is, behind_ok}
-use Rattle.c_reading.proofs.KindFacts.{both_left, both_right, not_true, not_false, abstract_ends_specs}
+use Rattle.c_reading.proofs.KindFacts.{not_true, not_false, abstract_ends_specs}
 use Rattle.c_reading.proofs.Firsts.{no_mix_of_none, first_laws}
 use Rattle.c_reading.proofs.DeclrFalls.{suffix_shrinks, declr_falls, declr_shrinks, type_name_shrinks}
 use Rattle.c_reading.proofs.DeclrSoundParams.{specs_high}
 use Rattle.c_reading.proofs.DeclrOwn.{own_pointer, own_none}
 use Rattle.c_reading.proofs.DeclrSound.{unnamed_plain, declr_sound}
-use Rattle.c_reading.proofs.DeclrComplete.{named_no_pointer_word, abstract_no_pointer_word, direct_ends, inner_room, inner_number, least_room, some_closed_high, words_least, words_two, all_three, declr_high, mode_fits, bare_direct, direct_on}
+use Rattle.c_reading.proofs.DeclrComplete.{named_no_pointer_word, abstract_no_pointer_word, direct_ends, inner_room, inner_number, least_room, some_closed_high, words_least, words_two, all_three, mode_fits, bare_direct, direct_on}
 use Rattle.c_reading.proofs.Aims.{least_pointer_words, ends_specs, ends_suffix, ends_none, ends_star, ends_declr, ends_type_name, own_scope_in, closed_of, declared_as, declr_room, declr_number, FitsMode, MayName, TakesWords, type_name_form, DeclrLaws, TypeNameLaws, TokenLaws, FirstLaws, Laws}
+use Rattle.c_reading.proofs.SpecsSoundBodies.{declr_high}
 
-module _ (all : List Lexeme) (numbered : IsNumbered all) (tokens : TokenLaws all) (goes : MixesGoOn) (n : ℕ) (inner : Inner) (laws : Laws all n inner) where
+module _ (all : List Lexeme) (numbered : IsNumbered all) (tokens : TokenLaws all) (goes : MixesGoOn) (n : ℕ)
+    (inner : Inner) (laws : Laws all n inner) where
   firsts : FirstLaws all
   firsts = first_laws goes all numbered
 
@@ -44,7 +47,10 @@ module _ (all : List Lexeme) (numbered : IsNumbered all) (tokens : TokenLaws all
       → ends_suffix (kind_at k) ≡ true → run (suffix_turn inner flag room) d s k ≡ done (found d s k)
   loop_ends flag room d s k ended =
       run_ends (suffix_turn inner flag room) (suffix_shrinks all tokens n inner laws flag room) d s k
-      (rw (not_true (both_right (not (is_open_paren (kind_at k))) (not (is_open_bracket (kind_at k))) ended), not_true (both_left (not (is_open_paren (kind_at k))) (not (is_open_bracket (kind_at k))) ended)) refl)
+      (rw (
+        not_true (and_second (not (is_open_paren (kind_at k))) (not (is_open_bracket (kind_at k))) ended),
+        not_true (and_first (not (is_open_paren (kind_at k))) (not (is_open_bracket (kind_at k))) ended),
+      ) refl)
 
   -- nothing stands there
 
@@ -68,9 +74,14 @@ module _ (all : List Lexeme) (numbered : IsNumbered all) (tokens : TokenLaws all
       declr_with inner mode wanted flag room s k ≡ done (found (declared_as wanted no_declr s) s k)
   unfolding declr_with direct_with core_with
   none_complete mode wanted flag room s k fits ended =
-      let e = all_three (ends_suffix (kind_at k)) (not (is_star (kind_at k))) (not (takes_name mode && is_some (spelled_name (kind_at k)))) ended in
-      rw (not_true e.1) (rw (not_true (both_left (not (is_open_paren (kind_at k))) (not (is_open_bracket (kind_at k))) e.0), no_base_there mode wanted s (kind_at k) fits)
-      (bind_is _ (no_core mode wanted room s k (spelled_name (kind_at k)) fits (not_true e.2)) (loop_ends flag room (declared_as wanted no_declr s) s k e.0)))
+      let e = all_three (ends_suffix (kind_at k)) (not (is_star (kind_at k)))
+      (not (takes_name mode && is_some (spelled_name (kind_at k)))) ended in
+      rw (not_true e.1) (rw (
+        not_true (and_first (not (is_open_paren (kind_at k))) (not (is_open_bracket (kind_at k))) e.0),
+        no_base_there mode wanted s (kind_at k) fits,
+      )
+      (bind_is _ (no_core mode wanted room s k (spelled_name (kind_at k)) fits (not_true e.2))
+      (loop_ends flag room (declared_as wanted no_declr s) s k e.0)))
 
   -- a pointer
 
@@ -90,12 +101,21 @@ module _ (all : List Lexeme) (numbered : IsNumbered all) (tokens : TokenLaws all
       → MayName all mode wanted
       → (token : ℕ) (words : List PointerWord) (d : SomeDeclr) (s s' : HeldScopes) (k : List Lexeme)
       → All (IsPointerWord all) words → FitsMode all mode d s → (flag ≡ true) ⊎ (some_lists_identifiers d ≡ false) →
-      some_declr_scopes wanted d s ≡ Some s' → max (pointer_words_height words) (some_declr_height d) + 1 ≤ declr_room flag (closed_of wanted d s) room → begins_pointer_word (kind_at (some_declr_text all d k)) ≡ false → ends_declr mode d (kind_at k) ≡ true →
-      pointer_with inner mode wanted flag room s (sign_text puncts.Star token (pointer_words_text all words (some_declr_text all d k))) ≡ done (found (declared_as wanted (some_declr (with_pointer token words d)) s) s' k)
+      some_declr_scopes wanted d s ≡ Some s'
+      → max (pointer_words_height words) (some_declr_height d) + 1 ≤ declr_room flag (closed_of wanted d s) room
+      → begins_pointer_word (kind_at (some_declr_text all d k)) ≡ false → ends_declr mode d (kind_at k) ≡ true →
+      pointer_with inner mode wanted flag room s
+      (sign_text puncts.Star token (pointer_words_text all words (some_declr_text all d k)))
+      ≡ done (found (declared_as wanted (some_declr (with_pointer token words d)) s) s' k)
   unfolding pointer_with
   pointer_complete mode wanted flag room less may token words d s s' k words_fit fits plain named low no_word ended =
-      fits_is (least_pointer mode) room (sign_text puncts.Star token (pointer_words_text all words (some_declr_text all d k))) _ enough ∙ bind_is _ refl (bind_is _ read (bind_is _ inside
-      (ap (λ (o : Option OwnParams). done (found (record { declr = some_declr (with_pointer token words d); closed = option_map innermost (own_scope_in wanted o s) }) s' k)) (sym (own_pointer token words d)))))
+      fits_is (least_pointer mode) room
+      (sign_text puncts.Star token (pointer_words_text all words (some_declr_text all d k))) _ enough
+      ∙ bind_is _ refl (bind_is _ read (bind_is _ inside
+      (ap (λ (o : Option OwnParams). done (found (record {
+        declr = some_declr (with_pointer token words d);
+        closed = option_map innermost (own_scope_in wanted o s);
+      }) s' k)) (sym (own_pointer token words d)))))
     where
       h : ℕ
       h = max (pointer_words_height words) (some_declr_height d) + 1
@@ -104,10 +124,14 @@ module _ (all : List Lexeme) (numbered : IsNumbered all) (tokens : TokenLaws all
       three scope is = let high : 2 ≤ some_declr_height d = some_closed_high wanted d s scope is in omega (arith, high)
 
       enough : least_pointer mode ≤ room
-      enough = least_room flag (closed_of wanted d s) room h (least_pointer mode) (λ scope is. let high : 3 ≤ h = three scope is in omega (arith, high, pointer_two mode)) (omega (arith, pointer_high mode d s fits)) low
+      enough =
+          least_room flag (closed_of wanted d s) room h (least_pointer mode) (λ scope is. let high : 3 ≤ h =
+          three scope is in omega (arith, high, pointer_two mode)) (omega (arith, pointer_high mode d s fits)) low
 
       words_room : least_pointer_words words ≤ room
-      words_room = least_room flag (closed_of wanted d s) room h (least_pointer_words words) (λ scope is. let high : 3 ≤ h = three scope is in omega (arith, high, words_two words)) (omega (arith, words_least words)) low
+      words_room =
+          least_room flag (closed_of wanted d s) room h (least_pointer_words words) (λ scope is. let high : 3 ≤ h =
+          three scope is in omega (arith, high, words_two words)) (omega (arith, words_least words)) low
 
       one : (mode : Mode) → 1 ≤ least_pointer mode
       one Named = omega arith
@@ -117,11 +141,17 @@ module _ (all : List Lexeme) (numbered : IsNumbered all) (tokens : TokenLaws all
       least : 1 ≤ room
       least = omega (arith, enough, one mode)
 
-      read : pointer_words_at room s (pointer_words_text all words (some_declr_text all d k)) ≡ done (found words s (some_declr_text all d k))
-      read = tokens.pointer_words_complete room words s s (some_declr_text all d k) words_fit refl words_room (not_false no_word)
+      read : pointer_words_at room s (pointer_words_text all words (some_declr_text all d k))
+          ≡ done (found words s (some_declr_text all d k))
+      read = tokens.pointer_words_complete room words s s (some_declr_text all d k) words_fit refl words_room
+          (not_false no_word)
 
-      inside : inner.declr mode wanted flag (room - 1) s (some_declr_text all d k) ≡ done (found (declared_as wanted d s) s' k)
-      inside = laws.declrs.complete mode wanted flag (room - 1) (inner_number flag room n less least) may d s s' k fits plain named (inner_room flag (closed_of wanted d s) room (some_declr_height d) (pointer_words_height words) low least) ended
+      inside : inner.declr mode wanted flag (room - 1) s (some_declr_text all d k)
+          ≡ done (found (declared_as wanted d s) s' k)
+      inside =
+          laws.declrs.complete mode wanted flag (room - 1)
+          (inner_number flag room n less least) may d s s' k fits plain named (inner_room flag
+          (closed_of wanted d s) room (some_declr_height d) (pointer_words_height words) low least) ended
 
   -- the first token of a direct declarator is no star
   direct_no_star : (d : Declr) (k : List Lexeme) → IsDeclr all d → is_direct d ≡ true
@@ -131,25 +161,33 @@ module _ (all : List Lexeme) (numbered : IsNumbered all) (tokens : TokenLaws all
   direct_no_star (declr_paren opening attrs d closing) k fits direct = refl
   direct_no_star (array d opening words size closing) k fits direct = direct_no_star d _ fits.0 fits.2
   direct_no_star (params d opening ps dots closing) k fits direct = direct_no_star d _ fits.0 fits.2
-  direct_no_star (identifiers d opening names closing) k fits direct = direct_no_star d _ fits.0 (bare_direct all d fits.1)
+  direct_no_star (identifiers d opening names closing) k fits direct =
+      direct_no_star d _ fits.0 (bare_direct all d fits.1)
   direct_no_star (base_name token) k fits direct = refl
   direct_no_star (abs_pointer star words d) k fits direct = absurd cc
   direct_no_star (abs_paren opening attrs d closing) k fits direct = refl
   direct_no_star (abs_array no_declr opening words size closing) k fits direct = refl
-  direct_no_star (abs_array (some_declr d) opening words size closing) k fits direct = direct_no_star d _ fits.0.0 fits.0.2
+  direct_no_star (abs_array (some_declr d) opening words size closing) k fits direct =
+      direct_no_star d _ fits.0.0 fits.0.2
   direct_no_star (abs_params no_declr opening ps dots closing) k fits direct = refl
-  direct_no_star (abs_params (some_declr d) opening ps dots closing) k fits direct = direct_no_star d _ fits.0.0 fits.0.2
+  direct_no_star (abs_params (some_declr d) opening ps dots closing) k fits direct =
+      direct_no_star d _ fits.0.0 fits.0.2
 
   direct_complete : (mode : Mode) (wanted : Option Kind) (flag : Bool) (room : ℕ) → declr_number flag room < suc n
       → MayName all mode wanted → (d : Declr) (s s' : HeldScopes) (k : List Lexeme) → is_direct d ≡ true
       → FitsMode all mode (some_declr d) s → (flag ≡ true) ⊎ (lists_identifiers d ≡ false)
       → declr_scopes wanted d s ≡ Some s' →
-      declr_height d ≤ declr_room flag (closed_of wanted (some_declr d) s) room → ends_declr mode (some_declr d) (kind_at k) ≡ true → declr_with inner mode wanted flag room s (declr_text all d k) ≡ done (found (declared_as wanted (some_declr d) s) s' k)
+      declr_height d ≤ declr_room flag (closed_of wanted (some_declr d) s) room
+      → ends_declr mode (some_declr d) (kind_at k) ≡ true → declr_with inner mode wanted flag room s
+      (declr_text all d k) ≡ done (found (declared_as wanted (some_declr d) s) s' k)
   unfolding declr_with
   direct_complete mode wanted flag room less may d s s' k direct fits plain named low ended =
       let f = mode_fits all mode d s fits in
-      let suffix : ends_suffix (kind_at k) ≡ true = ap (λ (b : Bool). if b then ends_star mode (kind_at k) else ends_suffix (kind_at k)) (sym (direct_ends d direct)) ∙ ended in
-      rw (direct_no_star d k f.0 direct) (direct_on all numbered tokens goes n inner laws mode wanted flag room less may d s s' k f.0 direct f.1 f.2 plain named low ∙ loop_ends flag room (declared_as wanted (some_declr d) s) s' k suffix)
+      let suffix : ends_suffix (kind_at k) ≡ true = ap (λ (b : Bool). if b then ends_star mode (kind_at k)
+      else ends_suffix (kind_at k)) (sym (direct_ends d direct)) ∙ ended in
+      rw (direct_no_star d k f.0 direct)
+      (direct_on all numbered tokens goes n inner laws mode wanted flag room less may d s s' k f.0 direct f.1 f.2 plain
+      named low ∙ loop_ends flag room (declared_as wanted (some_declr d) s) s' k suffix)
 
   -- the part of a pointer fits its mode
   named_part : (mode : Mode) (token : ℕ) (words : List PointerWord) (d : Declr) (s : HeldScopes)
@@ -169,15 +207,20 @@ module _ (all : List Lexeme) (numbered : IsNumbered all) (tokens : TokenLaws all
 
   star_none : (mode : Mode) (kind : TokenKind) → ends_star mode kind ≡ true
       → (ends_none mode kind ≡ true) × (begins_pointer_word kind ≡ false)
-  star_none mode kind e = (both_left (ends_none mode kind) (not (begins_pointer_word kind)) e, not_true (both_right (ends_none mode kind) (not (begins_pointer_word kind)) e))
+  star_none mode kind e = (
+    and_first (ends_none mode kind) (not (begins_pointer_word kind)) e,
+    not_true (and_second (ends_none mode kind) (not (begins_pointer_word kind)) e),
+  )
 
   declr_complete : (mode : Mode) (wanted : Option Kind) (flag : Bool) (room : ℕ) → declr_number flag room < suc n
       → MayName all mode wanted → (d : SomeDeclr) (s s' : HeldScopes) (k : List Lexeme) → FitsMode all mode d s
       → (flag ≡ true) ⊎ (some_lists_identifiers d ≡ false) → some_declr_scopes wanted d s ≡ Some s' →
-      some_declr_height d ≤ declr_room flag (closed_of wanted d s) room → ends_declr mode d (kind_at k) ≡ true → declr_with inner mode wanted flag room s (some_declr_text all d k) ≡ done (found (declared_as wanted d s) s' k)
+      some_declr_height d ≤ declr_room flag (closed_of wanted d s) room → ends_declr mode d (kind_at k) ≡ true
+      → declr_with inner mode wanted flag room s (some_declr_text all d k) ≡ done (found (declared_as wanted d s) s' k)
   unfolding declr_with
   declr_complete mode wanted flag room less may no_declr s s' k fits plain named low ended =
-      none_complete mode wanted flag room s k fits ended ∙ ap (λ (o : Option HeldScopes). done (found (declared_as wanted no_declr s) (from o) k)) named
+      none_complete mode wanted flag room s k fits ended
+      ∙ ap (λ (o : Option HeldScopes). done (found (declared_as wanted no_declr s) (from o) k)) named
     where
       from : Option HeldScopes → HeldScopes
       from None = s
@@ -187,20 +230,27 @@ module _ (all : List Lexeme) (numbered : IsNumbered all) (tokens : TokenLaws all
       let f = mode_fits all mode d s p.1 in
       let begun = firsts.named_begins d k f.0 p.2 in
       let made : with_pointer token words (some_declr d) ≡ pointer token words d = rw p.2 refl in
-      pointer_complete mode wanted flag room less may token words (some_declr d) s s' k p.0 p.1 plain named low (named_no_pointer_word (kind_at (declr_text all d k)) begun) ended
+      pointer_complete mode wanted flag room less may token words (some_declr d) s s' k p.0 p.1 plain named low
+      (named_no_pointer_word (kind_at (declr_text all d k)) begun) ended
       ∙ ap (λ (e : Declr). done (found (declared_as wanted (some_declr e) s) s' k)) made
-  declr_complete mode wanted flag room less may (some_declr (abs_pointer token words no_declr)) s s' k fits plain named low ended =
+  declr_complete mode wanted flag room less may
+      (some_declr (abs_pointer token words no_declr)) s s' k fits plain named low ended =
       let p = abstract_part mode token words no_declr s fits in
       let e = star_none mode (kind_at k) ended in
       pointer_complete mode wanted flag room less may token words no_declr s s' k p.0 p.1 (inr refl) named low e.1 e.0
-  declr_complete mode wanted flag room less may (some_declr (abs_pointer token words (some_declr d))) s s' k fits plain named low ended =
+  declr_complete mode wanted flag room less may
+      (some_declr (abs_pointer token words (some_declr d))) s s' k fits plain named low ended =
       let p = abstract_part mode token words (some_declr d) s fits in
       let begun = firsts.abstract_begins d k p.2.0 p.2.1 in
       let made : with_pointer token words (some_declr d) ≡ abs_pointer token words (some_declr d) = rw p.2.1 refl in
-      let closed : closed_of wanted (some_declr d) s ≡ None = ap (λ (o : Option OwnParams). option_map innermost (own_scope_in wanted o s)) (own_none d p.2.1) in
-      pointer_complete mode wanted flag room less may token words (some_declr d) s s' k p.0 p.1 (inr (unnamed_plain d p.2.1)) named (rw closed low) (abstract_no_pointer_word (kind_at (declr_text all d k)) begun) ended
+      let closed : closed_of wanted (some_declr d) s ≡ None =
+      ap (λ (o : Option OwnParams). option_map innermost (own_scope_in wanted o s)) (own_none d p.2.1) in
+      pointer_complete mode wanted flag room less may token words (some_declr d) s s' k p.0 p.1
+      (inr (unnamed_plain d p.2.1)) named (rw closed low)
+      (abstract_no_pointer_word (kind_at (declr_text all d k)) begun) ended
       ∙ ap (λ (e : Declr). done (found (declared_as wanted (some_declr e) s) s' k)) made
-  declr_complete mode wanted flag room less may (some_declr d) s s' k fits plain named low ended = direct_complete mode wanted flag room less may d s s' k refl fits plain named low ended
+  declr_complete mode wanted flag room less may (some_declr d) s s' k fits plain named low ended =
+      direct_complete mode wanted flag room less may d s s' k refl fits plain named low ended
 
   pub declr_laws : DeclrLaws all (suc n) (declr_with inner)
   declr_laws = record {
@@ -235,9 +285,11 @@ module _ (all : List Lexeme) (numbered : IsNumbered all) (tokens : TokenLaws all
       let high : 1 ≤ specs_height a.0.tree = specs_high a.0.tree in
       let words_low : specs_height a.0.tree ≤ room - 1 = by_low a.0 w w.low in
       at_end (Takes all (type_name_form all) room s ts) b.2 (record {
-        spelled = w.spelled ∙ ap (λ (ws : SpecWords). spec_words_text all ws a.0.rest) (sym w.words_are) ∙ ap (spec_words_text all a.0.tree) d.spelled;
+        spelled = w.spelled ∙ ap (λ (ws : SpecWords). spec_words_text all ws a.0.rest) (sym w.words_are)
+            ∙ ap (spec_words_text all a.0.tree) d.spelled;
         fits = (w.mix, subst (AreTypeWords all) (sym w.words_are) w.fits, d.fits);
-        named = behind_is (some_declr_scopes None b.0.tree.declr) (ap (λ (ws : SpecWords). spec_words_scopes ws s) w.words_are ∙ w.named) d.named;
+        named = behind_is (some_declr_scopes None b.0.tree.declr)
+            (ap (λ (ws : SpecWords). spec_words_scopes ws s) w.words_are ∙ w.named) d.named;
         low = omega (arith, low, high, words_low);
         left = d.left;
       })
@@ -249,19 +301,22 @@ module _ (all : List Lexeme) (numbered : IsNumbered all) (tokens : TokenLaws all
 
   words_end : (d : SomeDeclr) (k : List Lexeme) → IsSomeAbstract all d → ends_type_name (kind_at k) ≡ true
       → ends_specs (kind_at (some_declr_text all d k)) ≡ true
-  words_end no_declr k fits ended = both_left (ends_specs (kind_at k)) (ends_none Abstract (kind_at k)) ended
-  words_end (some_declr d) k fits ended = abstract_ends_specs (kind_at (declr_text all d k)) (firsts.abstract_begins d k fits.0 fits.1)
+  words_end no_declr k fits ended = and_first (ends_specs (kind_at k)) (ends_none Abstract (kind_at k)) ended
+  words_end (some_declr d) k fits ended =
+      abstract_ends_specs (kind_at (declr_text all d k)) (firsts.abstract_begins d k fits.0 fits.1)
 
   abstract_end : (d : SomeDeclr) (k : List Lexeme) → ends_type_name (kind_at k) ≡ true
       → ends_declr Abstract d (kind_at k) ≡ true
-  abstract_end no_declr k ended = both_right (ends_specs (kind_at k)) (ends_none Abstract (kind_at k)) ended
+  abstract_end no_declr k ended = and_second (ends_specs (kind_at k)) (ends_none Abstract (kind_at k)) ended
   abstract_end (some_declr d) k ended = by_star (ends_starred d)
     where
       none : ends_none Abstract (kind_at k) ≡ true
-      none = both_right (ends_specs (kind_at k)) (ends_none Abstract (kind_at k)) ended
+      none = and_second (ends_specs (kind_at k)) (ends_none Abstract (kind_at k)) ended
 
       by_star : (b : Bool) → (if b then ends_star Abstract (kind_at k) else ends_suffix (kind_at k)) ≡ true
-      by_star true = rw (none, specs_no_word (kind_at k) (both_left (ends_specs (kind_at k)) (ends_none Abstract (kind_at k)) ended)) refl
+      by_star true = rw
+          (none, specs_no_word (kind_at k) (and_first (ends_specs (kind_at k)) (ends_none Abstract (kind_at k)) ended))
+          refl
       by_star false = (all_three (ends_suffix (kind_at k)) _ _ none).0
 
   abstract_plain : (d : SomeDeclr) → IsSomeAbstract all d → some_lists_identifiers d ≡ false
@@ -274,8 +329,11 @@ module _ (all : List Lexeme) (numbered : IsNumbered all) (tokens : TokenLaws all
   type_name_complete room less t s s' k fits named low ended =
       let a = behind_ok (spec_words_scopes t.words s) (some_declr_scopes None t.declr) s' named in
       let high : 1 ≤ specs_height t.words = specs_high t.words in
-      let words = laws.words.complete Naming no_words t.words (room - 1) (omega (arith, less, low, high)) s a.0 (some_declr_text all t.declr k) fits.0 fits.1 a.1 (inr (omega (arith, low))) (inl (words_end t.declr k fits.2 ended)) in
-      let declr = laws.declrs.complete Abstract None false (room - 1) (omega (arith, less, low, high)) refl t.declr a.0 s' k fits.2 (inr (abstract_plain t.declr fits.2)) a.2 (omega (arith, low)) (abstract_end t.declr k ended) in
+      let words = laws.words.complete Naming no_words t.words (room - 1) (omega (arith, less, low, high)) s a.0
+      (some_declr_text all t.declr k) fits.0 fits.1 a.1 (inr (omega (arith, low)))
+      (inl (words_end t.declr k fits.2 ended)) in
+      let declr = laws.declrs.complete Abstract None false (room - 1) (omega (arith, less, low, high)) refl t.declr a.0
+      s' k fits.2 (inr (abstract_plain t.declr fits.2)) a.2 (omega (arith, low)) (abstract_end t.declr k ended) in
       bind_is _ words (bind_is _ declr refl)
 
   pub type_name_laws : TypeNameLaws all (suc n) (type_name_with inner)

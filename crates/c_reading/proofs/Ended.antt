@@ -25,7 +25,9 @@ module _ {T : Type 0} (begins : TokenKind → Bool) (read : Reader T) where
   pub repeated_stops : Shrinks read → (s : HeldScopes) (ts : List Lexeme) (x : Found (List T))
       → repeated begins read s ts ≡ done x → begins (kind_at x.rest) ≡ false
   unfolding repeated
-  repeated_stops shrinks s ts x e = no_turn x.tree x.scopes x.rest (run_stops (repeated_turn begins read) (row_turn_shrinks begins read shrinks) [] s ts x e)
+  repeated_stops shrinks s ts x e =
+      no_turn x.tree x.scopes x.rest
+      (run_stops (repeated_turn begins read) (row_turn_shrinks begins read shrinks) [] s ts x e)
 
 pub exts_stop : {all : List Lexeme} → TokenLaws all
     → (room : ℕ) (s : HeldScopes) (ts : List Lexeme) (x : Found (List ℕ)) → extensions_at room s ts ≡ done x

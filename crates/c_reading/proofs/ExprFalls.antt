@@ -47,7 +47,12 @@ module _ (all : List Lexeme) (tokens : TokenLaws all) (n : ℕ) (inner : Inner) 
   arguments_falls room s ts x e =
       if_ok (is_close_paren (kind_at ts)) e (λ is e. omega (arith, left_is e)) (λ is e.
       let a = bind_ok e in
-      omega (arith, listed_shrinks _ (next_argument inner room) (next_argument_falls room) (laws.exprs.shrinks Assigned nothing (room - 1)) _ _ _ a.1, left_is a.2))
+      omega (
+        arith,
+        listed_shrinks _ (next_argument inner room) (next_argument_falls room)
+            (laws.exprs.shrinks Assigned nothing (room - 1)) _ _ _ a.1,
+        left_is a.2,
+      ))
 
   index_shrinks : (base : Expr) (room : ℕ) → Shrinks (index_with inner base room)
   unfolding index_with
@@ -55,7 +60,13 @@ module _ (all : List Lexeme) (tokens : TokenLaws all) (n : ℕ) (inner : Inner) 
       let a = bind_ok e in
       let b = bind_ok a.2 in
       let c = bind_ok b.2 in
-      omega (arith, take_falls _ _ _ a.1, laws.exprs.shrinks _ _ _ _ _ _ b.1, token_falls is_close_bracket _ _ _ c.1, left_is c.2)
+      omega (
+        arith,
+        take_falls _ _ _ a.1,
+        laws.exprs.shrinks _ _ _ _ _ _ b.1,
+        token_falls is_close_bracket _ _ _ c.1,
+        left_is c.2,
+      )
 
   call_shrinks : (base : Expr) (room : ℕ) → Shrinks (call_with inner base room)
   unfolding call_with
@@ -63,7 +74,8 @@ module _ (all : List Lexeme) (tokens : TokenLaws all) (n : ℕ) (inner : Inner) 
       let a = bind_ok e in
       let b = bind_ok a.2 in
       let c = bind_ok b.2 in
-      omega (arith, take_falls _ _ _ a.1, arguments_falls _ _ _ _ b.1, token_falls is_close_paren _ _ _ c.1, left_is c.2)
+      omega
+      (arith, take_falls _ _ _ a.1, arguments_falls _ _ _ _ b.1, token_falls is_close_paren _ _ _ c.1, left_is c.2)
 
   dot_shrinks : (base : Expr) → Shrinks (dot_with inner base)
   unfolding dot_with
@@ -106,7 +118,8 @@ module _ (all : List Lexeme) (tokens : TokenLaws all) (n : ℕ) (inner : Inner) 
   unfolding postfixed
   postfixed_falls room base s ts x e =
       run-keep (postfix_turn inner room) (λ a s k. length k ≤ length ts)
-      (λ a s k x h e. let less : length x.rest < length k = postfix_turn_shrinks room a s k x e in omega arith) base s ts x (omega arith) e
+      (λ a s k x h e. let less : length x.rest < length k = postfix_turn_shrinks room a s k x e in
+      omega arith) base s ts x (omega arith) e
 
   primary_shrinks : (make : ℕ → Expr) (room : ℕ) → Shrinks (primary_with inner make room)
   primary_shrinks make room s ts x e =
@@ -148,27 +161,35 @@ module _ (all : List Lexeme) (tokens : TokenLaws all) (n : ℕ) (inner : Inner) 
   typed_shrinks casts opening room s ts x e =
       let a = bind_ok e in
       let b = bind_ok a.2 in
-      omega (arith, laws.types.shrinks _ _ _ _ a.1, token_falls is_close_paren _ _ _ b.1, typed_behind_shrinks _ _ _ _ _ _ _ _ b.2)
+      omega (
+        arith,
+        laws.types.shrinks _ _ _ _ a.1,
+        token_falls is_close_paren _ _ _ b.1,
+        typed_behind_shrinks _ _ _ _ _ _ _ _ b.2,
+      )
 
   statement_shrinks : (opening room : ℕ) → Shrinks (statement_with inner opening room)
   unfolding statement_with
   statement_shrinks opening room s ts x e =
       let a = bind_ok e in
       let b = bind_ok a.2 in
-      omega (arith, laws.blocks.shrinks _ _ _ _ a.1, token_falls is_close_paren _ _ _ b.1, postfixed_falls _ _ _ _ _ b.2)
+      omega
+      (arith, laws.blocks.shrinks _ _ _ _ a.1, token_falls is_close_paren _ _ _ b.1, postfixed_falls _ _ _ _ _ b.2)
 
   paren_shrinks : (opening room : ℕ) → Shrinks (paren_with inner opening room)
   unfolding paren_with
   paren_shrinks opening room s ts x e =
       let a = bind_ok e in
       let b = bind_ok a.2 in
-      omega (arith, laws.exprs.shrinks _ _ _ _ _ _ a.1, token_falls is_close_paren _ _ _ b.1, postfixed_falls _ _ _ _ _ b.2)
+      omega
+      (arith, laws.exprs.shrinks _ _ _ _ _ _ a.1, token_falls is_close_paren _ _ _ b.1, postfixed_falls _ _ _ _ _ b.2)
 
   opened_by_shrinks : (casts : Bool) (opening room : ℕ) → Shrinks (opened_by inner casts opening room)
   unfolding opened_by
   opened_by_shrinks casts opening room s ts x e =
       if_ok (begins_specs s (kind_at ts)) e (λ is e. typed_shrinks casts opening room s ts x e) (λ is e.
-      if_ok (is_open_brace (kind_at ts)) e (λ is e. statement_shrinks opening room s ts x e) (λ is e. paren_shrinks opening room s ts x e))
+      if_ok (is_open_brace (kind_at ts)) e (λ is e. statement_shrinks opening room s ts x e)
+      (λ is e. paren_shrinks opening room s ts x e))
 
   opened_shrinks : (casts : Bool) (room : ℕ) → Shrinks (opened_with inner casts room)
   unfolding opened_with
@@ -214,13 +235,20 @@ module _ (all : List Lexeme) (tokens : TokenLaws all) (n : ℕ) (inner : Inner) 
       let a = bind_ok e in
       let b = bind_ok a.2 in
       let c = bind_ok b.2 in
-      omega (arith, take_falls _ _ _ a.1, laws.types.shrinks _ _ _ _ b.1, token_falls is_close_paren _ _ _ c.1, sizeof_typed_falls _ _ _ _ _ _ _ _ c.2)
+      omega (
+        arith,
+        take_falls _ _ _ a.1,
+        laws.types.shrinks _ _ _ _ b.1,
+        token_falls is_close_paren _ _ _ c.1,
+        sizeof_typed_falls _ _ _ _ _ _ _ _ c.2,
+      )
 
   sizeof_behind_shrinks : (word : Word) (room : ℕ) → Shrinks (sizeof_behind inner word room)
   unfolding sizeof_behind
   sizeof_behind_shrinks word room s ts x e =
       if_ok (is_open_paren (kind_at ts)) e (λ is e.
-      if_ok (begins_specs s (kind_at (behind_first ts))) (fits_ok _ _ _ e).1 (λ is e. sizeof_type_shrinks word room s ts x e) (λ is e. sizeof_value_shrinks word room s ts x e))
+      if_ok (begins_specs s (kind_at (behind_first ts))) (fits_ok _ _ _ e).1
+      (λ is e. sizeof_type_shrinks word room s ts x e) (λ is e. sizeof_value_shrinks word room s ts x e))
       (λ is e. sizeof_value_shrinks word room s ts x e)
 
   sizeof_shrinks : (keyword : Keyword) (room : ℕ) → Shrinks (sizeof_with inner keyword room)
@@ -240,8 +268,10 @@ module _ (all : List Lexeme) (tokens : TokenLaws all) (n : ℕ) (inner : Inner) 
       let d = bind_ok c.2 in
       let f = bind_ok d.2 in
       let g = bind_ok f.2 in
-      then_one _ _ _ (then_one _ _ _ (then_fewer _ _ _ (then_one _ _ _ (then_fewer _ _ _ (and_one _ _ _ (postfixed_falls _ _ _ _ _ g.2) (token_falls is_close_paren _ _ _ g.1))
-      (laws.types.shrinks _ _ _ _ f.1)) (token_falls is_comma _ _ _ d.1)) (laws.exprs.shrinks _ _ _ _ _ _ c.1)) (token_falls is_open_paren _ _ _ b.1)) (take_falls _ _ _ a.1)
+      then_one _ _ _ (then_one _ _ _ (then_fewer _ _ _ (then_one _ _ _
+      (then_fewer _ _ _ (and_one _ _ _ (postfixed_falls _ _ _ _ _ g.2) (token_falls is_close_paren _ _ _ g.1))
+      (laws.types.shrinks _ _ _ _ f.1)) (token_falls is_comma _ _ _ d.1)) (laws.exprs.shrinks _ _ _ _ _ _ c.1))
+      (token_falls is_open_paren _ _ _ b.1)) (take_falls _ _ _ a.1)
 
   va_two_shrinks : (make : ℕ → ℕ → Expr → ℕ → Expr → ℕ → Expr) (room : ℕ) → Shrinks (va_two_with inner make room)
   unfolding va_two_with
@@ -253,8 +283,10 @@ module _ (all : List Lexeme) (tokens : TokenLaws all) (n : ℕ) (inner : Inner) 
       let d = bind_ok c.2 in
       let f = bind_ok d.2 in
       let g = bind_ok f.2 in
-      then_one _ _ _ (then_one _ _ _ (then_fewer _ _ _ (then_one _ _ _ (then_fewer _ _ _ (and_one _ _ _ (postfixed_falls _ _ _ _ _ g.2) (token_falls is_close_paren _ _ _ g.1))
-      (laws.exprs.shrinks _ _ _ _ _ _ f.1)) (token_falls is_comma _ _ _ d.1)) (laws.exprs.shrinks _ _ _ _ _ _ c.1)) (token_falls is_open_paren _ _ _ b.1)) (take_falls _ _ _ a.1)
+      then_one _ _ _ (then_one _ _ _ (then_fewer _ _ _ (then_one _ _ _
+      (then_fewer _ _ _ (and_one _ _ _ (postfixed_falls _ _ _ _ _ g.2) (token_falls is_close_paren _ _ _ g.1))
+      (laws.exprs.shrinks _ _ _ _ _ _ f.1)) (token_falls is_comma _ _ _ d.1)) (laws.exprs.shrinks _ _ _ _ _ _ c.1))
+      (token_falls is_open_paren _ _ _ b.1)) (take_falls _ _ _ a.1)
 
   pub step_shrinks : (room : ℕ) → Shrinks (step_with inner room)
   unfolding step_with
@@ -266,7 +298,13 @@ module _ (all : List Lexeme) (tokens : TokenLaws all) (n : ℕ) (inner : Inner) 
       let a = bind_ok e in
       let b = bind_ok a.2 in
       let c = bind_ok b.2 in
-      omega (arith, take_falls _ _ _ a.1, laws.exprs.shrinks _ _ _ _ _ _ b.1, token_falls is_close_bracket _ _ _ c.1, left_is c.2))
+      omega (
+        arith,
+        take_falls _ _ _ a.1,
+        laws.exprs.shrinks _ _ _ _ _ _ b.1,
+        token_falls is_close_bracket _ _ _ c.1,
+        left_is c.2,
+      ))
 
   offset_shrinks : (room : ℕ) → Shrinks (offset_with inner room)
   unfolding offset_with
@@ -279,8 +317,10 @@ module _ (all : List Lexeme) (tokens : TokenLaws all) (n : ℕ) (inner : Inner) 
       let f = bind_ok d.2 in
       let g = bind_ok f.2 in
       let h = bind_ok g.2 in
-      then_one _ _ _ (then_one _ _ _ (then_fewer _ _ _ (then_one _ _ _ (then_one _ _ _ (then_no_more _ _ _ (and_one _ _ _ (postfixed_falls _ _ _ _ _ h.2) (token_falls is_close_paren _ _ _ h.1))
-      (repeated_falls begins_desig (step_with inner room) (step_shrinks room) _ _ _ g.1)) (name_falls _ _ _ f.1)) (token_falls is_comma _ _ _ d.1)) (laws.types.shrinks _ _ _ _ c.1))
+      then_one _ _ _ (then_one _ _ _ (then_fewer _ _ _ (then_one _ _ _ (then_one _ _ _
+      (then_no_more _ _ _ (and_one _ _ _ (postfixed_falls _ _ _ _ _ h.2) (token_falls is_close_paren _ _ _ h.1))
+      (repeated_falls begins_desig (step_with inner room) (step_shrinks room) _ _ _ g.1)) (name_falls _ _ _ f.1))
+      (token_falls is_comma _ _ _ d.1)) (laws.types.shrinks _ _ _ _ c.1))
       (token_falls is_open_paren _ _ _ b.1)) (take_falls _ _ _ a.1)
 
   part_shrinks : (room : ℕ) → Shrinks (part_with inner room)
@@ -310,15 +350,20 @@ module _ (all : List Lexeme) (tokens : TokenLaws all) (n : ℕ) (inner : Inner) 
       let d = bind_ok c.2 in
       let f = bind_ok d.2 in
       let g = bind_ok f.2 in
-      then_one _ _ _ (then_one _ _ _ (then_fewer _ _ _ (then_one _ _ _ (then_fewer _ _ _ (and_one _ _ _ (postfixed_falls _ _ _ _ _ g.2) (token_falls is_close_paren _ _ _ g.1))
-      (laws.types.shrinks _ _ _ _ f.1)) (token_falls is_comma _ _ _ d.1)) (laws.types.shrinks _ _ _ _ c.1)) (token_falls is_open_paren _ _ _ b.1)) (take_falls _ _ _ a.1)
+      then_one _ _ _ (then_one _ _ _ (then_fewer _ _ _ (then_one _ _ _
+      (then_fewer _ _ _ (and_one _ _ _ (postfixed_falls _ _ _ _ _ g.2) (token_falls is_close_paren _ _ _ g.1))
+      (laws.types.shrinks _ _ _ _ f.1)) (token_falls is_comma _ _ _ d.1)) (laws.types.shrinks _ _ _ _ c.1))
+      (token_falls is_open_paren _ _ _ b.1)) (take_falls _ _ _ a.1)
 
   choose_shrinks : (room : ℕ) → Shrinks (choose_with inner room)
   unfolding choose_with
   choose_shrinks room s ts x e =
-      bind_in (fits_ok _ _ _ e).1 (λ a p e. bind_in e (λ b q e. bind_in e (λ c r e. bind_in e (λ d t e. bind_in e (λ f u e. bind_in e (λ g v e. bind_in e (λ h w e. bind_in e (λ i z e.
-      then_one _ _ _ (then_one _ _ _ (then_fewer _ _ _ (then_one _ _ _ (then_fewer _ _ _ (then_one _ _ _ (then_fewer _ _ _ (and_one _ _ _ (postfixed_falls _ _ _ _ _ e) (token_falls is_close_paren _ _ _ z))
-      (laws.exprs.shrinks _ _ _ _ _ _ w)) (token_falls is_comma _ _ _ v)) (laws.exprs.shrinks _ _ _ _ _ _ u)) (token_falls is_comma _ _ _ t)) (laws.exprs.shrinks _ _ _ _ _ _ r))
+      bind_in (fits_ok _ _ _ e).1 (λ a p e. bind_in e (λ b q e. bind_in e (λ c r e.
+      bind_in e (λ d t e. bind_in e (λ f u e. bind_in e (λ g v e. bind_in e (λ h w e. bind_in e (λ i z e.
+      then_one _ _ _ (then_one _ _ _ (then_fewer _ _ _ (then_one _ _ _ (then_fewer _ _ _ (then_one _ _ _
+      (then_fewer _ _ _ (and_one _ _ _ (postfixed_falls _ _ _ _ _ e) (token_falls is_close_paren _ _ _ z))
+      (laws.exprs.shrinks _ _ _ _ _ _ w)) (token_falls is_comma _ _ _ v)) (laws.exprs.shrinks _ _ _ _ _ _ u))
+      (token_falls is_comma _ _ _ t)) (laws.exprs.shrinks _ _ _ _ _ _ r))
       (token_falls is_open_paren _ _ _ q)) (take_falls _ _ _ p)))))))))
 
   pub assoc_shrinks : (room : ℕ) → Shrinks (assoc_with inner room)
@@ -329,13 +374,21 @@ module _ (all : List Lexeme) (tokens : TokenLaws all) (n : ℕ) (inner : Inner) 
       let a = bind_ok r.1 in
       let b = bind_ok a.2 in
       let c = bind_ok b.2 in
-      omega (arith, take_falls _ _ _ a.1, token_falls is_colon _ _ _ b.1, laws.exprs.shrinks _ _ _ _ _ _ c.1, left_is c.2)) (λ is e.
+      omega
+      (arith, take_falls _ _ _ a.1, token_falls is_colon _ _ _ b.1, laws.exprs.shrinks _ _ _ _ _ _ c.1, left_is c.2))
+      (λ is e.
       if_ok (begins_role Naming s (kind_at ts)) e (λ is e.
       let r = fits_ok _ _ _ e in
       let a = bind_ok r.1 in
       let b = bind_ok a.2 in
       let c = bind_ok b.2 in
-      omega (arith, laws.types.shrinks _ _ _ _ a.1, token_falls is_colon _ _ _ b.1, laws.exprs.shrinks _ _ _ _ _ _ c.1, left_is c.2)) (λ is e. absurd cc))
+      omega (
+        arith,
+        laws.types.shrinks _ _ _ _ a.1,
+        token_falls is_colon _ _ _ b.1,
+        laws.exprs.shrinks _ _ _ _ _ _ c.1,
+        left_is c.2,
+      )) (λ is e. absurd cc))
 
   pub next_assoc_falls : (room separator : ℕ) → Falls (next_assoc inner room separator)
   unfolding next_assoc
@@ -353,8 +406,10 @@ module _ (all : List Lexeme) (tokens : TokenLaws all) (n : ℕ) (inner : Inner) 
       let d = bind_ok c.2 in
       let f = bind_ok d.2 in
       let g = bind_ok f.2 in
-      then_one _ _ _ (then_one _ _ _ (then_fewer _ _ _ (then_one _ _ _ (then_fewer _ _ _ (and_one _ _ _ (postfixed_falls _ _ _ _ _ g.2) (token_falls is_close_paren _ _ _ g.1))
-      (listed_shrinks (assoc_with inner (room - 1)) (next_assoc inner (room - 1)) (next_assoc_falls (room - 1)) (assoc_shrinks (room - 1)) _ _ _ f.1)) (token_falls is_comma _ _ _ d.1)) (laws.exprs.shrinks _ _ _ _ _ _ c.1))
+      then_one _ _ _ (then_one _ _ _ (then_fewer _ _ _ (then_one _ _ _
+      (then_fewer _ _ _ (and_one _ _ _ (postfixed_falls _ _ _ _ _ g.2) (token_falls is_close_paren _ _ _ g.1))
+      (listed_shrinks (assoc_with inner (room - 1)) (next_assoc inner (room - 1)) (next_assoc_falls (room - 1))
+      (assoc_shrinks (room - 1)) _ _ _ f.1)) (token_falls is_comma _ _ _ d.1)) (laws.exprs.shrinks _ _ _ _ _ _ c.1))
       (token_falls is_open_paren _ _ _ b.1)) (take_falls _ _ _ a.1)
 
   unary_by_shrinks : (o : Opening) (room : ℕ) → Shrinks (unary_by inner o room)
@@ -363,7 +418,8 @@ module _ (all : List Lexeme) (tokens : TokenLaws all) (n : ℕ) (inner : Inner) 
   unary_by_shrinks (openings.Sizeof keyword) room s ts x e = sizeof_shrinks keyword room s ts x e
   unary_by_shrinks openings.Extension room s ts x e = extension_shrinks room s ts x e
   unary_by_shrinks (openings.Name name) room s ts x e =
-      if_ok (names_type s name) e (λ is e. absurd cc) (λ is e. primary_shrinks (λ token. name_use token name) room s ts x e)
+      if_ok (names_type s name) e (λ is e. absurd cc)
+      (λ is e. primary_shrinks (λ token. name_use token name) room s ts x e)
   unary_by_shrinks openings.Number room s ts x e = primary_shrinks number_use room s ts x e
   unary_by_shrinks openings.Char room s ts x e = primary_shrinks char_use room s ts x e
   unary_by_shrinks openings.Text room s ts x e = text_shrinks room s ts x e
@@ -386,7 +442,8 @@ module _ (all : List Lexeme) (tokens : TokenLaws all) (n : ℕ) (inner : Inner) 
   pub cast_shrinks : (room : ℕ) → Shrinks (cast_with inner room)
   unfolding cast_with
   cast_shrinks room s ts x e =
-      if_ok (is_open_paren (kind_at ts)) e (λ is e. opened_shrinks true room s ts x e) (λ is e. unary_shrinks room s ts x e)
+      if_ok (is_open_paren (kind_at ts)) e (λ is e. opened_shrinks true room s ts x e)
+      (λ is e. unary_shrinks room s ts x e)
 
   operand_shrinks : (begun : Begun) (room : ℕ) → Shrinks (operand_with inner begun room)
   unfolding operand_with
@@ -419,18 +476,29 @@ module _ (all : List Lexeme) (tokens : TokenLaws all) (n : ℕ) (inner : Inner) 
       let b = bind_ok a.2 in
       let c = bind_ok b.2 in
       let d = bind_ok c.2 in
-      omega (arith, take_falls _ _ _ a.1, middle_falls _ _ _ _ b.1, token_falls is_colon _ _ _ c.1, cast_shrinks _ _ _ _ d.1, left_is d.2)
+      omega (
+        arith,
+        take_falls _ _ _ a.1,
+        middle_falls _ _ _ _ b.1,
+        token_falls is_colon _ _ _ c.1,
+        cast_shrinks _ _ _ _ d.1,
+        left_is d.2,
+      )
 
   pub operation_turn_shrinks : (reach : Reach) (room : ℕ) → TurnShrinks (operation_turn inner reach room)
   operation_turn_shrinks reach room row s ts x e = by_infix (infix_of (kind_at ts)) e
     where
       by_infix : (f : Infix) → operation_by inner reach room f row s ts ≡ Some (done x) → length x.rest < length ts
-      by_infix infixes.Comma e = if_ok (takes_comma reach) e (λ is e. operation_shrinks comma (settled row 0) room s ts x (some_is e)) (λ is e. absurd cc)
+      by_infix infixes.Comma e =
+          if_ok (takes_comma reach) e (λ is e. operation_shrinks comma (settled row 0) room s ts x (some_is e))
+          (λ is e. absurd cc)
       by_infix (infixes.Assign p) e =
           if_ok (nat_le 14 (expr_level (settled row 1).last)) e (λ is e.
-          if_ok (takes_assign reach) e (λ is e. operation_shrinks (assign p) (settled row 1) room s ts x (some_is e)) (λ is e. absurd cc)) (λ is e. absurd cc)
+          if_ok (takes_assign reach) e (λ is e. operation_shrinks (assign p) (settled row 1) room s ts x (some_is e))
+          (λ is e. absurd cc)) (λ is e. absurd cc)
       by_infix infixes.Question e = question_shrinks (settled row 2) room s ts x (some_is e)
-      by_infix (infixes.Binary p) e = operation_shrinks (binary p) (settled row (binary_level p + 2)) room s ts x (some_is e)
+      by_infix (infixes.Binary p) e =
+          operation_shrinks (binary p) (settled row (binary_level p + 2)) room s ts x (some_is e)
       by_infix infixes.Nothing e = absurd cc
 
   row_shrinks : (reach : Reach) (begun : Begun) (room : ℕ) → Shrinks (row_with inner reach begun room)
@@ -438,8 +506,10 @@ module _ (all : List Lexeme) (tokens : TokenLaws all) (n : ℕ) (inner : Inner) 
   row_shrinks reach begun room s ts x e =
       let a = bind_ok e in
       let b = bind_ok a.2 in
-      let less : length b.0.rest ≤ length a.0.rest = run-keep (operation_turn inner reach room) (λ row s k. length k ≤ length a.0.rest)
-      (λ row s k x h e. let less : length x.rest < length k = operation_turn_shrinks reach room row s k x e in omega arith) (record { waiting = bottom; last = a.0.tree }) a.0.scopes a.0.rest b.0 (omega arith) b.1 in
+      let less : length b.0.rest ≤ length a.0.rest =
+      run-keep (operation_turn inner reach room) (λ row s k. length k ≤ length a.0.rest)
+      (λ row s k x h e. let less : length x.rest < length k = operation_turn_shrinks reach room row s k x e in
+      omega arith) (record { waiting = bottom; last = a.0.tree }) a.0.scopes a.0.rest b.0 (omega arith) b.1 in
       omega (arith, operand_shrinks _ _ _ _ _ a.1, left_is b.2, less)
 
   pub expr_shrinks : (reach : Reach) (begun : Begun) (room : ℕ) → Shrinks (expr_with inner reach begun room)

@@ -17,6 +17,7 @@ use Rattle.c_reading.specs.declared.kinds.Infix.TheVariants as infixes
 use Rattle.c_reading.specs.Expressing.{opening_of, form_of, infix_of, binary_or_nothing}
 use Rattle.c_reading.proofs.Aims.{reach_level}
 
+-- the token of a postfix form is the one that it is named by
 abbrev pub IsForm : PostfixForm → TokenKind → Type 0
 IsForm forms.Index kind = kind ≡ kinds.Punct puncts.OpenBracket
 IsForm forms.Call kind = kind ≡ kinds.Punct puncts.OpenParen
@@ -25,6 +26,7 @@ IsForm forms.Arrow kind = kind ≡ kinds.Punct puncts.Arrow
 IsForm (forms.Post p) kind = (kind ≡ kinds.Punct p) × (is_postfix p ≡ true)
 IsForm forms.Nothing kind = Unit {0}
 
+-- a token is the sign of the postfix form that it is taken for
 pub form_is : (kind : TokenKind) → IsForm (form_of kind) kind
 form_is (kinds.Punct puncts.OpenBracket) = refl
 form_is (kinds.Punct puncts.OpenParen) = refl
@@ -34,6 +36,7 @@ form_is (kinds.Punct puncts.PlusPlus) = (refl, refl)
 form_is (kinds.Punct puncts.MinusMinus) = (refl, refl)
 form_is kind = tt
 
+-- the token that opens an operand is the one that the opening is named by
 abbrev pub IsOpening : Opening → TokenKind → Type 0
 IsOpening (openings.Prefix p reach) kind = (kind ≡ kinds.Punct p) × (prefix_level p ≡ reach_level reach)
 IsOpening (openings.Sizeof keyword) kind = (kind ≡ kinds.Keyword keyword) × (is_sizeof keyword ≡ true)
@@ -54,6 +57,7 @@ IsOpening openings.Choose kind = kind ≡ kinds.Keyword keywords.Choose
 IsOpening openings.Generic kind = kind ≡ kinds.Keyword keywords.Generic
 IsOpening openings.Nothing kind = Unit {0}
 
+-- a token is the sign of the opening that it is taken for
 pub opening_is : (kind : TokenKind) → IsOpening (opening_of kind) kind
 opening_is (kinds.Punct puncts.OpenParen) = refl
 opening_is (kinds.Punct puncts.PlusPlus) = (refl, refl)
@@ -82,6 +86,7 @@ opening_is kinds.Char = refl
 opening_is kinds.Text = refl
 opening_is kind = tt
 
+-- the token between two operands is the one that the infix is named by
 abbrev pub IsInfix : Infix → TokenKind → Type 0
 IsInfix infixes.Comma kind = kind ≡ kinds.Punct puncts.Comma
 IsInfix (infixes.Assign p) kind = (kind ≡ kinds.Punct p) × (is_assignment p ≡ true)
@@ -89,6 +94,7 @@ IsInfix infixes.Question kind = kind ≡ kinds.Punct puncts.Question
 IsInfix (infixes.Binary p) kind = (kind ≡ kinds.Punct p) × (1 ≤ binary_level p)
 IsInfix infixes.Nothing kind = Unit {0}
 
+-- a punctuator that is no comma or `?` is an assignment, a binary operator of level 1 at least, or nothing
 infix_punct : (p : Punct)
     → IsInfix (if is_assignment p then infixes.Assign p else binary_or_nothing p (binary_level p)) (kinds.Punct p)
 infix_punct p = by_assign (is_assignment p) refl
@@ -102,6 +108,7 @@ infix_punct p = by_assign (is_assignment p) refl
     by_assign true is = (refl, is)
     by_assign false is = by_level (binary_level p) refl
 
+-- a token is the sign of the infix that it is taken for
 pub infix_is : (kind : TokenKind) → IsInfix (infix_of kind) kind
 infix_is (kinds.Punct puncts.Comma) = refl
 infix_is (kinds.Punct puncts.Question) = refl

@@ -2,15 +2,14 @@
 use Rattle.std.proofs.Common.{◌≡◌, ℕ, suc, ◌<◌, ◌≤◌, Bool, true, false, List, Option, Some, None, refl, sym, ◌∙◌, subst, arith}
 use Rattle.std.specs.Prelude.{◌+◌, max, nat_le}
 use Rattle.std.proofs.lemmas.Bool.{leb-true, leb-false, le-leb}
-use Rattle.c_words.specs.declared.kinds.Punct.{Punct}
-use Rattle.c_words.specs.declared.kinds.Punct.TheVariants as puncts
 use Rattle.c_tree.specs.declared.lexeme.Lexeme.{Lexeme}
-use Rattle.c_tree.specs.Tree.{Expr, operation, Operator, comma, assign, cond, binary}
+use Rattle.c_tree.specs.Tree.{Expr, operation, Operator}
 use Rattle.c_tree.specs.Text.{expr_text, operator_text}
 use Rattle.c_tree.specs.Height.{expr_height, operator_height}
-use Rattle.c_tree.specs.Levels.{IsOperator, binary_level, expr_level, operator_level, left_level, right_level}
+use Rattle.c_tree.specs.Levels.{IsOperator, expr_level, operator_level, left_level, right_level}
 use Rattle.c_tree.specs.WellFormed.{IsExpr, IsMiddle}
 use Rattle.c_ops.specs.Joining.{Left, Stack, bottom, above, Accepts, Settled, settle_of, finished}
+use Rattle.c_ops.proofs.Levels.{right_most}
 use Rattle.c_units.specs.HeldScopes.{HeldScopes}
 use Rattle.c_units.specs.Scoping.{behind, expr_scopes, operator_scopes}
 use Rattle.c_reading.specs.declared.kinds.Reach.{Reach}
@@ -22,44 +21,17 @@ abbrev pub joined_with : Left → Expr → Expr
 joined_with l e = operation l.tree l.operator l.token e
 
 -- where the newest ends before an operator of a level, and where it goes on
-pub settle_stays : (n : ℕ) (w : Stack) (l : Left) (e : Expr) → right_level l.operator ≤ n → settle_of n (above w l) e ≡ record { below = above w l; last = e }
+pub settle_stays : (n : ℕ) (w : Stack) (l : Left) (e : Expr) → right_level l.operator ≤ n
+    → settle_of n (above w l) e ≡ record { below = above w l; last = e }
 settle_stays n w l e h = rw (le-leb (right_level l.operator) n h) refl
 
 pub settle_joins : (n : ℕ) (w : Stack) (l : Left) (e : Expr) → nat_le (right_level l.operator) n ≡ false
     → settle_of n (above w l) e ≡ settle_of n w (joined_with l e)
 settle_joins n w l e h = rw h refl
 
--- no binary operator asks for more than a cast
-binary_ten : (p : Punct) → binary_level p ≤ 10
-binary_ten puncts.BarBar = omega arith
-binary_ten puncts.AmpersandAmpersand = omega arith
-binary_ten puncts.Bar = omega arith
-binary_ten puncts.Caret = omega arith
-binary_ten puncts.Ampersand = omega arith
-binary_ten puncts.EqualEqual = omega arith
-binary_ten puncts.BangEqual = omega arith
-binary_ten puncts.Less = omega arith
-binary_ten puncts.Greater = omega arith
-binary_ten puncts.LessEqual = omega arith
-binary_ten puncts.GreaterEqual = omega arith
-binary_ten puncts.ShiftLeft = omega arith
-binary_ten puncts.ShiftRight = omega arith
-binary_ten puncts.Plus = omega arith
-binary_ten puncts.Minus = omega arith
-binary_ten puncts.Star = omega arith
-binary_ten puncts.Slash = omega arith
-binary_ten puncts.Percent = omega arith
-binary_ten p = omega arith
-
-pub right_thirteen : (op : Operator) → right_level op ≤ 13
-right_thirteen comma = omega arith
-right_thirteen (assign p) = omega arith
-right_thirteen (cond middle colon) = omega arith
-right_thirteen (binary p) = let ten : binary_level p ≤ 10 = binary_ten p in omega (arith, ten)
-
 pub accepts_cast : (w : Stack) (n : ℕ) → 13 ≤ n → Accepts w n
 accepts_cast bottom n h = tt
-accepts_cast (above w l) n h = let r : right_level l.operator ≤ 13 = right_thirteen l.operator in omega (arith, r, h)
+accepts_cast (above w l) n h = let r : right_level l.operator ≤ 13 = right_most l.operator in omega (arith, r, h)
 
 module _ (all : List Lexeme) where
   abbrev pub stack_text : Stack → List Lexeme → List Lexeme
@@ -69,7 +41,9 @@ module _ (all : List Lexeme) where
   -- each is well formed, and what it waits behind accepts it with its operator
   abbrev pub AreStack : Stack → Type 0
   AreStack bottom = Unit {0}
-  AreStack (above w l) = AreStack w × IsExpr all l.tree × IsOperator l.operator × IsMiddle all l.operator × (left_level l.operator ≤ expr_level l.tree) × Accepts w (operator_level l.operator)
+  AreStack (above w l) =
+      AreStack w × IsExpr all l.tree × IsOperator l.operator × IsMiddle all l.operator
+      × (left_level l.operator ≤ expr_level l.tree) × Accepts w (operator_level l.operator)
 
   abbrev pub stack_scopes : Stack → HeldScopes → Option HeldScopes
   stack_scopes bottom s = Some s
@@ -78,7 +52,9 @@ module _ (all : List Lexeme) where
   -- the i-th, from one, is at most as high as the room without i
   abbrev pub StackLow : ℕ → Stack → Type 0
   StackLow room bottom = Unit {0}
-  StackLow room (above w l) = StackLow room w × (suc (how_many w) + expr_height l.tree ≤ room) × (suc (how_many w) + operator_height l.operator ≤ room)
+  StackLow room (above w l) =
+      StackLow room w × (suc (how_many w) + expr_height l.tree ≤ room)
+      × (suc (how_many w) + operator_height l.operator ≤ room)
 
   -- no operator of a level below that of the reach
   abbrev pub StackReach : Reach → Stack → Type 0
@@ -101,7 +77,8 @@ module _ (all : List Lexeme) where
   finished_scopes (above w l) e s = finished_scopes w (joined_with l e) s ∙ by_first (stack_scopes w s)
     where
       by_first : (r : Option HeldScopes)
-          → behind r (expr_scopes (joined_with l e)) ≡ behind (behind (behind r (expr_scopes l.tree)) (operator_scopes l.operator)) (expr_scopes e)
+          → behind r (expr_scopes (joined_with l e))
+          ≡ behind (behind (behind r (expr_scopes l.tree)) (operator_scopes l.operator)) (expr_scopes e)
       by_first None = refl
       by_first (Some t) = refl
 
@@ -113,7 +90,8 @@ module _ (all : List Lexeme) where
       → expr_height (finished w e) ≤ room
   finished_low room bottom e h low = omega (arith, low)
   finished_low room (above w l) e h low =
-      finished_low room w (joined_with l e) h.0 (one_more (how_many w) (expr_height l.tree) (operator_height l.operator) (expr_height e) room h.1 h.2 low)
+      finished_low room w (joined_with l e) h.0
+      (one_more (how_many w) (expr_height l.tree) (operator_height l.operator) (expr_height e) room h.1 h.2 low)
 
   pub finished_level : (reach : Reach) (w : Stack) (e : Expr) → StackReach reach w → reach_level reach ≤ expr_level e
       → reach_level reach ≤ expr_level (finished w e)
@@ -137,11 +115,23 @@ module _ (all : List Lexeme) where
   pub settles : (room : ℕ) (reach : Reach) (n least : ℕ)
       → ((op : Operator) → IsOperator op → n < right_level op → least ≤ operator_level op) → (w : Stack) (e : Expr)
       → AreStack w → IsExpr all e → Accepts w (expr_level e) →
-      least ≤ expr_level e → StackReach reach w → StackLow room w → how_many w + expr_height e ≤ room → SettlesTo room reach n least w e (settle_of n w e)
+      least ≤ expr_level e → StackReach reach w → StackLow room w → how_many w + expr_height e ≤ room
+      → SettlesTo room reach n least w e (settle_of n w e)
   settles room reach n least rises bottom e h f a level reaches lows low =
-      record { same_text = λ k. refl; same_scopes = λ s. refl; stack = tt; fits = f; accepts = tt; level = level; reaches = tt; stack_low = tt; low = low }
+      record {
+        same_text = λ k. refl;
+        same_scopes = λ s. refl;
+        stack = tt;
+        fits = f;
+        accepts = tt;
+        level = level;
+        reaches = tt;
+        stack_low = tt;
+        low = low;
+      }
   settles room reach n least rises (above w l) e h f a level reaches lows low =
-      by_test (nat_le (right_level l.operator) n) refl (λ is. settles room reach n least rises w (joined_with l e) h.0 (h.1, f, h.2, h.3, h.4, a) h.5
+      by_test (nat_le (right_level l.operator) n) refl (λ is.
+      settles room reach n least rises w (joined_with l e) h.0 (h.1, f, h.2, h.3, h.4, a) h.5
       (rises l.operator h.2 (above_it is)) reaches.0 lows.0
       (one_more (how_many w) (expr_height l.tree) (operator_height l.operator) (expr_height e) room lows.1 lows.2 low))
     where
@@ -149,11 +139,23 @@ module _ (all : List Lexeme) where
       above_it is = leb-false (right_level l.operator) n is
 
       by_test : (b : Bool) → nat_le (right_level l.operator) n ≡ b
-          → (nat_le (right_level l.operator) n ≡ false → SettlesTo room reach n least w (joined_with l e) (settle_of n w (joined_with l e))) →
+          → (nat_le (right_level l.operator) n ≡ false
+          → SettlesTo room reach n least w (joined_with l e) (settle_of n w (joined_with l e))) →
           SettlesTo room reach n least (above w l) e (settle_of n (above w l) e)
       by_test true is rest =
-          subst (SettlesTo room reach n least (above w l) e) (sym (settle_stays n w l e (leb-true (right_level l.operator) n is)))
-          (record { same_text = λ k. refl; same_scopes = λ s. refl; stack = h; fits = f; accepts = leb-true (right_level l.operator) n is; level = level; reaches = reaches; stack_low = lows; low = low })
+          subst (SettlesTo room reach n least (above w l) e)
+          (sym (settle_stays n w l e (leb-true (right_level l.operator) n is)))
+          (record {
+            same_text = λ k. refl;
+            same_scopes = λ s. refl;
+            stack = h;
+            fits = f;
+            accepts = leb-true (right_level l.operator) n is;
+            level = level;
+            reaches = reaches;
+            stack_low = lows;
+            low = low;
+          })
       by_test false is rest =
           let t = rest is in
           subst (SettlesTo room reach n least (above w l) e) (sym (settle_joins n w l e is)) (record {
@@ -169,6 +171,7 @@ module _ (all : List Lexeme) where
           })
         where
           by_first : (r : Option HeldScopes)
-              → behind r (expr_scopes (joined_with l e)) ≡ behind (behind (behind r (expr_scopes l.tree)) (operator_scopes l.operator)) (expr_scopes e)
+              → behind r (expr_scopes (joined_with l e))
+              ≡ behind (behind (behind r (expr_scopes l.tree)) (operator_scopes l.operator)) (expr_scopes e)
           by_first None = refl
           by_first (Some t) = refl

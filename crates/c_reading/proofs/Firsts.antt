@@ -1,9 +1,6 @@
 -- The first tokens of specifiers, expressions and declarators.
-use Rattle.std.proofs.Common.{◌≡◌, ℕ, nat_eq, ◌≤◌, Bool, true, false, List, [], ◌∷◌, ◌++◌, length, Option, Some, None, inl, inr, refl, sym, ◌∙◌, ap, arith}
-use Rattle.std.specs.Prelude.{Any, IsPermutation, is_some, not, ◌||◌}
-use Rattle.std.proofs.lemmas.Bool.{eq-eqb}
-use Rattle.std.proofs.lemmas.List.Folds.{list_any-from_Any}
-use Rattle.std.proofs.lemmas.List.Sorted.{length_permutation}
+use Rattle.std.proofs.Common.{◌≡◌, ℕ, ◌≤◌, Bool, true, false, List, [], ◌∷◌, ◌++◌, Option, Some, None, inl, inr, refl, sym, ◌∙◌, ap, arith}
+use Rattle.std.specs.Prelude.{is_some, not, ◌||◌}
 use Rattle.c_words.specs.declared.kinds.TokenKind.{TokenKind}
 use Rattle.c_words.specs.declared.kinds.TokenKind.TheVariants as kinds
 use Rattle.c_words.specs.declared.kinds.Keyword.{Keyword}
@@ -12,11 +9,13 @@ use Rattle.c_words.specs.declared.kinds.Punct.{Punct}
 use Rattle.c_words.specs.declared.kinds.Punct.TheVariants as puncts
 use Rattle.c_tree.specs.declared.lexeme.Lexeme.{Lexeme}
 use Rattle.c_syntax.specs.declared.parts.Qual.TheVariants as quals
-use Rattle.c_tree.specs.Tree.{Expr, operation, cast, prefix, sizeof_value, sizeof_type, extension, index, call, dot, arrow, post, compound, name_use, number_use, char_use, text_use, paren, statement_expr, va_arg, va_start, va_copy, offset, complex_part, label_use, compat, choose, generic, Operator, comma, assign, cond, binary, SpecWords, no_words, more_words, SpecWord, storage, thread, inline_word, noreturn, qualifier, basic, struct_type, enum_type, typedef_name, attribute, typeof_value, typeof_type, align, auto_word, enum_of, Declr, pointer, declr_name, declr_paren, array, params, abs_pointer, abs_paren, abs_array, abs_params, identifiers, base_name, no_declr, some_declr}
+use Rattle.c_tree.specs.Tree.{Expr, operation, cast, prefix, sizeof_value, sizeof_type, extension, index, call, dot, arrow, post, compound, name_use, number_use, char_use, text_use, paren, statement_expr, va_arg, va_start, va_copy, offset, complex_part, label_use, compat, choose, generic, SpecWords, no_words, more_words, SpecWord, storage, thread, inline_word, noreturn, qualifier, basic, struct_type, enum_type, typedef_name, attribute, typeof_value, typeof_type, align, auto_word, enum_of, Declr, pointer, declr_name, declr_paren, array, params, abs_pointer, abs_paren, abs_array, abs_params, identifiers, base_name, no_declr, some_declr}
 use Rattle.c_tree.specs.Text.{operator_text, expr_text, spec_words_text, spec_word_text, declr_text, tokens_between}
-use Rattle.c_tree.specs.Levels.{binary_level, operator_level, expr_level}
-use Rattle.c_tree.specs.Specifiers.{IsMix, basic_types}
-use Rattle.c_tree.specs.WellFormed.{IsExpr, IsSpecWord, IsTypeWord, is_auto, has_auto, AreSpecWords, AreTypeWords, IsDeclr, IsElement, IsElementKind, is_type_former, is_bare_name, begins_base, is_storage, is_qual, is_struct, is_sizeof, is_named, prefix_level}
+use Rattle.c_tree.specs.Specifiers.{IsMix}
+use Rattle.c_tree.specs.WellFormed.{IsExpr, IsSpecWord, IsTypeWord, is_auto, has_auto, AreSpecWords, IsDeclr, IsElement, IsElementKind, is_type_former, begins_base, is_storage, is_qual, is_struct, is_sizeof, is_named, prefix_level}
+use Rattle.c_tree.proofs.NamedDeclarators.{bare_is_named}
+use Rattle.c_tree.proofs.Weaker.{type_words_are}
+use Rattle.c_tree.proofs.NoType.{no_type_of_none}
 use Rattle.c_specs.specs.declared.basic.Part.TheVariants as parts
 use Rattle.c_specs.specs.declared.mix.Types.{Types}
 use Rattle.c_specs.specs.declared.mix.Types.TheVariants.{Words, Named}
@@ -38,6 +37,7 @@ use Rattle.c_reading.specs.Expressing.{begins_expr}
 use Rattle.c_reading.proofs.Tails.{element_spelled}
 use Rattle.c_reading.proofs.Forms.{behind_ok}
 use Rattle.c_reading.proofs.Aims.{begins_named, begins_abstract, FitsRole, FirstLaws}
+use Rattle.c_reading.proofs.ExprCompleteForms.{level_sixteen}
 
 -- words of specifiers
 
@@ -51,14 +51,17 @@ other_stops (Some mix) e = by_types mix.types e
     by_types Named e = absurd cc
     by_types (Words base mark) e = absurd cc
 
+-- no mix goes on with a keyword that is no part of a basic type
 stops : (keyword : Keyword) (words : SpecWords) → part_of keyword ≡ parts.Other
     → goes_on words (classes.Spells keyword) ≡ true → ⊥
 stops keyword words other e = by_mix (mix_of words) e
   where
     by_mix : (o : Option Mix) → is_some (then_class o (classes.Spells keyword)) ≡ true → ⊥
     by_mix None e = absurd cc
-    by_mix (Some mix) e = other_stops (Some mix) (ap (λ (part : _). is_some (with_types mix (with_part mix.types part))) (sym other) ∙ e)
+    by_mix (Some mix) e =
+        other_stops (Some mix) (ap (λ (part : _). is_some (with_types mix (with_part mix.types part))) (sym other) ∙ e)
 
+-- a keyword with which some mix goes on begins a basic type word
 pub basic_starts : (keyword : Keyword) (words : SpecWords) → goes_on words (classes.Spells keyword) ≡ true
     → keyword_start keyword ≡ starts.Basic keyword
 basic_starts keywords.Void words e = refl
@@ -77,6 +80,7 @@ basic_starts keywords.BaseWord words e = refl
 basic_starts keywords.Int128 words e = refl
 basic_starts keyword words e = absurd (stops keyword words refl e)
 
+-- a storage keyword begins a storage word
 pub storage_starts : (keyword : Keyword) → is_storage keyword ≡ true → keyword_start keyword ≡ starts.Storage keyword
 storage_starts keywords.Typedef e = refl
 storage_starts keywords.Extern e = refl
@@ -85,6 +89,7 @@ storage_starts keywords.Auto e = refl
 storage_starts keywords.Register e = refl
 storage_starts keyword e = absurd cc
 
+-- a qualifier keyword that forms no type begins a qualifier
 pub qual_starts : (keyword : Keyword) → is_qual keyword ≡ true → not (is_type_former keyword) ≡ true
     → keyword_start keyword ≡ starts.Word keyword
 qual_starts keywords.Const e word = refl
@@ -104,6 +109,7 @@ former_some : (keyword : Keyword) → is_start (former_start keyword) ≡ true
 former_some keywords.AtomicType = refl
 former_some keyword = refl
 
+-- `struct` and `union` begin a struct type
 pub struct_starts : (keyword : Keyword) → is_struct keyword ≡ true → keyword_start keyword ≡ starts.Struct keyword
 struct_starts keywords.Struct e = refl
 struct_starts keywords.Union e = refl
@@ -132,6 +138,7 @@ start_of (typeof_type w opening ws d closing) = former_start w.keyword
 start_of (align a) = starts.Align
 start_of (auto_word token) = starts.Auto
 
+-- each specifier has a first token that begins one
 pub starts_some : (w : SpecWord) → is_start (start_of w) ≡ true
 starts_some (storage w) = refl
 starts_some (thread token) = refl
@@ -163,22 +170,11 @@ name_starts : (s : HeldScopes) (typed : Bool) (name : ℕ) → names_type s name
     → typed_start s typed (starts.Name name) ≡ starts.Name name
 name_starts s typed name is not_typed = rw (is, not_typed) refl
 
--- no words are a basic type
-pub no_type_of_none : Any (IsPermutation []) basic_types → ⊥
-no_type_of_none (at, set, less, is, same) =
-    let long : 0 ≡ length set = sym (length_permutation [] set same) in
-    let yes = list_any-from_Any (λ set. nat_eq 0 (length set)) basic_types (at, set, less, is, eq-eqb 0 (length set) long) in
-    let wrong : true ≡ false = sym yes in
-    absurd cc
-
+-- no words are no mix
 pub no_mix_of_none : (ws : SpecWords) → ws ≡ no_words → IsMix ws → ⊥
 no_mix_of_none no_words is (inl one, stores) = no_type_of_none one.1
 no_mix_of_none no_words is (inr one, stores) = let zero_is_one : 0 ≡ 1 = one.0 in omega (arith, zero_is_one)
 no_mix_of_none (more_words w ws) is mix = absurd cc
-
-pub type_words_are : (all : List Lexeme) (ws : SpecWords) → AreTypeWords all ws → AreSpecWords all ws
-type_words_are all no_words h = tt
-type_words_are all (more_words w ws) h = (h.0, type_words_are all ws h.2)
 
 module _ (all : List Lexeme) (numbered : IsNumbered all) (goes : MixesGoOn) where
   element_start_at : (s : HeldScopes) (typed : Bool) (token : ℕ) (k : List Lexeme)
@@ -186,7 +182,8 @@ module _ (all : List Lexeme) (numbered : IsNumbered all) (goes : MixesGoOn) wher
       start_at s typed (kind_at (tokens_between all token token ++ k)) ≡ starts.Element
   element_start_at s typed token k h =
       let e = element_spelled all numbered token h in
-      ap (λ (ts : List Lexeme). start_at s typed (kind_at (ts ++ k))) e.1 ∙ ap (typed_start s typed) (element_starts e.0.kind e.3)
+      ap (λ (ts : List Lexeme). start_at s typed (kind_at (ts ++ k))) e.1
+      ∙ ap (typed_start s typed) (element_starts e.0.kind e.3)
 
   former_typed : (s : HeldScopes) (typed : Bool) (keyword : Keyword) → is_type_former keyword ≡ true
       → typed_start s typed (keyword_start keyword) ≡ former_start keyword
@@ -198,20 +195,27 @@ module _ (all : List Lexeme) (numbered : IsNumbered all) (goes : MixesGoOn) wher
   pub word_starts : (s s' : HeldScopes) (typed : Bool) (words : SpecWords) (w : SpecWord) (k : List Lexeme)
       → IsSpecWord all w → spec_word_scopes w s ≡ Some s' → goes_on words (class_of w) ≡ true →
       (is_name w ≡ true → typed ≡ false) → start_at s typed (kind_at (spec_word_text all w k)) ≡ start_of w
-  word_starts s s' typed words (storage w) k fits named on free = ap (typed_start s typed) (storage_starts w.keyword fits)
+  word_starts s s' typed words (storage w) k fits named on free =
+      ap (typed_start s typed) (storage_starts w.keyword fits)
   word_starts s s' typed words (thread token) k fits named on free = refl
   word_starts s s' typed words (inline_word token) k fits named on free = refl
   word_starts s s' typed words (noreturn token) k fits named on free = refl
-  word_starts s s' typed words (qualifier (quals.Word w)) k fits named on free = ap (typed_start s typed) (qual_starts w.keyword fits.0 fits.1)
-  word_starts s s' typed words (qualifier (quals.Element token)) k fits named on free = element_start_at s typed token k fits.0
+  word_starts s s' typed words (qualifier (quals.Word w)) k fits named on free =
+      ap (typed_start s typed) (qual_starts w.keyword fits.0 fits.1)
+  word_starts s s' typed words (qualifier (quals.Element token)) k fits named on free =
+      element_start_at s typed token k fits.0
   word_starts s s' typed words (qualifier (quals.Index token)) k fits named on free = refl
-  word_starts s s' typed words (basic w) k fits named on free = ap (typed_start s typed) (basic_starts w.keyword words on)
-  word_starts s s' typed words (struct_type w attrs tag body) k fits named on free = ap (typed_start s typed) (struct_starts w.keyword fits.0)
+  word_starts s s' typed words (basic w) k fits named on free =
+      ap (typed_start s typed) (basic_starts w.keyword words on)
+  word_starts s s' typed words (struct_type w attrs tag body) k fits named on free =
+      ap (typed_start s typed) (struct_starts w.keyword fits.0)
   word_starts s s' typed words (enum_type (enum_of keyword attrs tag body)) k fits named on free = refl
-  word_starts s s' typed words (typedef_name n) k fits named on free = name_starts s typed n.name (where_holds (names_type s n.name) s s' named) (free refl)
+  word_starts s s' typed words (typedef_name n) k fits named on free =
+      name_starts s typed n.name (where_holds (names_type s n.name) s s' named) (free refl)
   word_starts s s' typed words (attribute a) k fits named on free = refl
   word_starts s s' typed words (typeof_value keyword opening e closing) k fits named on free = refl
-  word_starts s s' typed words (typeof_type w opening ws d closing) k fits named on free = former_typed s typed w.keyword fits.0
+  word_starts s s' typed words (typeof_type w opening ws d closing) k fits named on free =
+      former_typed s typed w.keyword fits.0
   word_starts s s' typed words (align a) k fits named on free = refl
   word_starts s s' typed words (auto_word token) k fits named on free = refl
 
@@ -221,7 +225,8 @@ module _ (all : List Lexeme) (numbered : IsNumbered all) (goes : MixesGoOn) wher
   words_begin no_words s s' k mix fits named = absurd (no_mix_of_none no_words refl mix)
   words_begin (more_words w ws) s s' k mix fits named =
       let step = behind_ok (spec_word_scopes w s) (spec_words_scopes ws) s' named in
-      ap is_start (word_starts s step.0 false no_words w (spec_words_text all ws k) fits.0 step.1 (goes no_words w ws mix) (λ is. refl)) ∙ starts_some w
+      ap is_start (word_starts s step.0 false no_words w (spec_words_text all ws k) fits.0 step.1
+      (goes no_words w ws mix) (λ is. refl)) ∙ starts_some w
 
 -- what a word begins with may stand where the word may
 
@@ -279,18 +284,21 @@ rest_plain : (a b : Bool) → (a || b) ≡ false → b ≡ false
 rest_plain true b h = absurd cc
 rest_plain false b h = h
 
+-- the first of words that fit a role may stand in it
 pub role_stands : (all : List Lexeme) (role : Role) (w : SpecWord) (ws : SpecWords)
     → FitsRole all role (more_words w ws) → may_stand role (start_of w) ≡ true
 role_stands all Declaring w ws fits = refl
 role_stands all Typed w ws fits = plain_stands w (first_plain (is_auto w) (has_auto ws) fits.1)
 role_stands all Naming w ws fits = stands w fits.1
 
+-- the first of words that fit a role is a well-formed specifier
 pub role_word : (all : List Lexeme) (role : Role) (w : SpecWord) (ws : SpecWords) → FitsRole all role (more_words w ws)
     → IsSpecWord all w
 role_word all Declaring w ws fits = fits.0
 role_word all Typed w ws fits = fits.0.0
 role_word all Naming w ws fits = fits.0
 
+-- the words behind the first of words that fit a role fit it too
 pub role_words : (all : List Lexeme) (role : Role) (w : SpecWord) (ws : SpecWords) → FitsRole all role (more_words w ws)
     → FitsRole all role ws
 role_words all Declaring w ws fits = fits.1
@@ -304,55 +312,13 @@ module _ (all : List Lexeme) (numbered : IsNumbered all) (goes : MixesGoOn) wher
   words_stand role no_words s s' k mix fits named = absurd (no_mix_of_none no_words refl mix)
   words_stand role (more_words w ws) s s' k mix fits named =
       let step = behind_ok (spec_word_scopes w s) (spec_words_scopes ws) s' named in
-      ap (may_stand role) (word_starts all numbered goes s step.0 false no_words w (spec_words_text all ws k) (role_word all role w ws fits) step.1 (goes no_words w ws mix) (λ is. refl))
+      ap (may_stand role) (word_starts all numbered goes s step.0 false no_words w (spec_words_text all ws k)
+      (role_word all role w ws fits) step.1 (goes no_words w ws mix) (λ is. refl))
       ∙ role_stands all role w ws fits
 
 -- expressions
 
-binary_most : (p : Punct) → binary_level p ≤ 10
-binary_most puncts.BarBar = omega arith
-binary_most puncts.AmpersandAmpersand = omega arith
-binary_most puncts.Bar = omega arith
-binary_most puncts.Caret = omega arith
-binary_most puncts.Ampersand = omega arith
-binary_most puncts.EqualEqual = omega arith
-binary_most puncts.BangEqual = omega arith
-binary_most puncts.Less = omega arith
-binary_most puncts.Greater = omega arith
-binary_most puncts.LessEqual = omega arith
-binary_most puncts.GreaterEqual = omega arith
-binary_most puncts.ShiftLeft = omega arith
-binary_most puncts.ShiftRight = omega arith
-binary_most puncts.Plus = omega arith
-binary_most puncts.Minus = omega arith
-binary_most puncts.Star = omega arith
-binary_most puncts.Slash = omega arith
-binary_most puncts.Percent = omega arith
-binary_most _ = omega arith
-
-pub operator_most : (op : Operator) → operator_level op ≤ 12
-operator_most comma = omega arith
-operator_most (assign p) = omega arith
-operator_most (cond middle colon) = omega arith
-operator_most (binary p) = let most = binary_most p in omega (arith, most)
-
-level_most : (e : Expr) → expr_level e ≤ 16
-level_most (operation e op token e2) = let most = operator_most op in omega (arith, most)
-level_most (cast opening ws d closing e) = omega arith
-level_most (prefix token p e) = omega arith
-level_most (sizeof_value word e) = omega arith
-level_most (sizeof_type word opening ws d closing) = omega arith
-level_most (extension keyword e) = omega arith
-level_most (index e opening e2 closing) = omega arith
-level_most (call e opening es closing) = omega arith
-level_most (dot e token name) = omega arith
-level_most (arrow e token name) = omega arith
-level_most (post e token p) = omega arith
-level_most (compound opening ws d closing list) = omega arith
-level_most (complex_part keyword e) = omega arith
-level_most (label_use token name) = omega arith
-level_most _ = omega arith
-
+-- a sign that is a prefix operator, of level 16 at most, begins an expression
 prefix_begins : (s : HeldScopes) (p : Punct) → prefix_level p ≤ 16 → begins_expr s (kinds.Punct p) ≡ true
 prefix_begins s puncts.PlusPlus h = refl
 prefix_begins s puncts.MinusMinus h = refl
@@ -364,6 +330,7 @@ prefix_begins s puncts.Tilde h = refl
 prefix_begins s puncts.Bang h = refl
 prefix_begins s p h = absurd (omega (arith, h))
 
+-- `sizeof` and `alignof` begin an expression
 sizeof_begins : (s : HeldScopes) (keyword : Keyword) → is_sizeof keyword ≡ true
     → begins_expr s (kinds.Keyword keyword) ≡ true
 sizeof_begins s keywords.Sizeof h = refl
@@ -376,12 +343,6 @@ texts_begin : (all : List Lexeme) (texts : List ℕ) (s : HeldScopes) (k : List 
 texts_begin all [] s k h = absurd (h refl)
 texts_begin all (x ∷ xs) s k h = refl
 
--- a bare name is one
-bare_named : (d : Declr) → is_bare_name d ≡ true → is_named d ≡ true
-bare_named (declr_name token name) h = refl
-bare_named (declr_paren opening attrs d closing) h = refl
-bare_named d h = absurd cc
-
 module _ (all : List Lexeme) where
   expr_begins : (e : Expr) (s s' : HeldScopes) (k : List Lexeme) → IsExpr all e → expr_scopes e s ≡ Some s'
       → begins_expr s (kind_at (expr_text all e k)) ≡ true
@@ -391,7 +352,7 @@ module _ (all : List Lexeme) where
       expr_begins e s b.0 (operator_text all op token (expr_text all e2 k)) fits.0 b.1
   expr_begins (cast opening ws d closing e) s s' k fits named = refl
   expr_begins (prefix token p e) s s' k fits named =
-      let most = level_most e in
+      let most = level_sixteen e in
       prefix_begins s p (omega (arith, most, fits.1))
   expr_begins (sizeof_value word e) s s' k fits named = sizeof_begins s word.keyword fits.1
   expr_begins (sizeof_type word opening ws d closing) s s' k fits named = sizeof_begins s word.keyword fits.3
@@ -431,7 +392,7 @@ module _ (all : List Lexeme) where
   named_begins (declr_paren opening attrs d closing) k fits is = refl
   named_begins (array d opening words size closing) k fits is = named_begins d _ fits.0 fits.1
   named_begins (params d opening ps dots closing) k fits is = named_begins d _ fits.0 fits.1
-  named_begins (identifiers d opening names closing) k fits is = named_begins d _ fits.0 (bare_named d fits.1)
+  named_begins (identifiers d opening names closing) k fits is = named_begins d _ fits.0 (bare_is_named d fits.1)
   named_begins (base_name token) k fits is = refl
   named_begins d k fits is = absurd cc
 
@@ -443,7 +404,7 @@ module _ (all : List Lexeme) where
   named_base (declr_paren opening attrs d closing) k fits is = refl
   named_base (array d opening words size closing) k fits is = named_base d _ fits.0 fits.1
   named_base (params d opening ps dots closing) k fits is = named_base d _ fits.0 fits.1
-  named_base (identifiers d opening names closing) k fits is = named_base d _ fits.0 (bare_named d fits.1)
+  named_base (identifiers d opening names closing) k fits is = named_base d _ fits.0 (bare_is_named d fits.1)
   named_base (base_name token) k fits is = refl
   named_base d k fits is = absurd cc
 
@@ -452,15 +413,18 @@ module _ (all : List Lexeme) where
   abstract_begins (abs_pointer star words d) k fits is = refl
   abstract_begins (abs_paren opening attrs d closing) k fits is = refl
   abstract_begins (abs_array no_declr opening words size closing) k fits is = refl
-  abstract_begins (abs_array (some_declr d) opening words size closing) k fits is = abstract_begins d _ fits.0.0 fits.0.1
+  abstract_begins (abs_array (some_declr d) opening words size closing) k fits is =
+      abstract_begins d _ fits.0.0 fits.0.1
   abstract_begins (abs_params no_declr opening ps dots closing) k fits is = refl
   abstract_begins (abs_params (some_declr d) opening ps dots closing) k fits is = abstract_begins d _ fits.0.0 fits.0.1
   abstract_begins d k fits is = absurd cc
 
+-- specifiers, expressions and declarators begin with the tokens that they are told by
 pub first_laws : (goes : MixesGoOn) (all : List Lexeme) → IsNumbered all → FirstLaws all
 first_laws goes all numbered = record {
   words_begin = words_begin all numbered goes;
-  type_words_begin = λ ws s s' k mix fits named. words_begin all numbered goes ws s s' k mix (type_words_are all ws fits) named;
+  type_words_begin =
+      λ ws s s' k mix fits named. words_begin all numbered goes ws s s' k mix (type_words_are all ws fits) named;
   words_stand = words_stand all numbered goes;
   expr_begins = expr_begins all;
   named_begins = named_begins all;

@@ -7,7 +7,7 @@ use Rattle.c_syntax.specs.declared.parts.Identifier.{Identifier}
 use Rattle.c_tree.specs.Text.{plain_text, identifier_text, tag_text}
 use Rattle.c_units.specs.HeldScopes.{HeldScopes}
 use Rattle.c_units.specs.Scoping.{behind}
-use Rattle.c_reading.specs.declared.kinds.Fault.TheVariants.{Unexpected}
+use Rattle.c_reading.specs.declared.kinds.FaultKind.TheVariants.{Unexpected}
 use Rattle.c_reading.specs.Reading.{Found, Reader, ends, refuses, kind_at, take_one, token_at, IsTail}
 use Rattle.c_reading.specs.Tokens.{name_at, name_by, tag_at, tag_by, spelled_name}
 use Rattle.c_reading.proofs.Binding.{found, done, ok_is}
@@ -35,9 +35,9 @@ pub at_end : {A : Type 0} (P : Found A → Type 0) {y x : Found A} → done y �
 at_end P e p = subst P (ok_is e) p
 
 -- What was read is spelled so, obeys the rules, gives these scopes, has the room for its height, and leaves a tail of
--- all
--- tokens.
-pub record Takes (all : List Lexeme) {T : Type 0} (form : Form T) (room : ℕ) (s : HeldScopes) (ts : List Lexeme) (x : Found T) : Type 0 where
+-- all tokens.
+pub record Takes (all : List Lexeme) {T : Type 0} (form : Form T) (room : ℕ) (s : HeldScopes) (ts : List Lexeme)
+    (x : Found T) : Type 0 where
   pub spelled : ts ≡ form.text x.tree x.rest
   pub fits : form.Fits x.tree
   pub named : form.scopes x.tree s ≡ Some x.scopes
@@ -45,12 +45,14 @@ pub record Takes (all : List Lexeme) {T : Type 0} (form : Form T) (room : ℕ) (
   pub left : IsTail all x.rest
 
 abbrev pub IsSound : List Lexeme → {T : Type 0} → Form T → ℕ → Reader T → Type 0
-IsSound all {T} form room read = (s : HeldScopes) (ts : List Lexeme) (x : Found T) → IsTail all ts → read s ts ≡ done x → Takes all form room s ts x
+IsSound all {T} form room read =
+    (s : HeldScopes) (ts : List Lexeme) (x : Found T) → IsTail all ts → read s ts ≡ done x → Takes all form room s ts x
 
 -- The text of what obeys the rules and has the room for its height, before a token that does not go on with it, is read
 -- as this.
 abbrev pub IsComplete : {T : Type 0} → Form T → (T → TokenKind → Bool) → ℕ → Reader T → Type 0
-IsComplete {T} form ends room read = (e : T) (s s' : HeldScopes) (k : List Lexeme) → form.Fits e → form.scopes e s ≡ Some s' → form.height e ≤ room →
+IsComplete {T} form ends room read =
+    (e : T) (s s' : HeldScopes) (k : List Lexeme) → form.Fits e → form.scopes e s ≡ Some s' → form.height e ≤ room →
     ends e (kind_at k) ≡ true → read s (form.text e k) ≡ done (found e s' k)
 
 -- whatever follows
@@ -84,7 +86,8 @@ lexeme_is t kind e = ap (λ (kind : TokenKind). record { kind = kind; at = t.at 
 module _ (all : List Lexeme) where
   took_first : (kind : TokenKind) (s : HeldScopes) (t : Lexeme) (ts : List Lexeme) → IsTail all (t ∷ ts) → t.kind ≡ kind
       → Took all kind s (t ∷ ts) (found t.at s ts)
-  took_first kind s t ts tail is = record { spelled = ap (λ (t : Lexeme). t ∷ ts) (lexeme_is t kind is); same = refl; left = tail_of all t ts tail }
+  took_first kind s t ts tail is =
+      record { spelled = ap (λ (t : Lexeme). t ∷ ts) (lexeme_is t kind is); same = refl; left = tail_of all t ts tail }
 
   -- the first token, whose kind is known
   pub took : (kind : TokenKind) (s : HeldScopes) (ts : List Lexeme) (x : Found ℕ) → IsTail all ts → kind_at ts ≡ kind
@@ -123,7 +126,11 @@ module _ (all : List Lexeme) where
       by_name : (o : Option ℕ) → spelled_name t.kind ≡ o → name_by o t s ts ≡ done x → TookName s (t ∷ ts) x
       by_name None is e = absurd cc
       by_name (Some n) is e =
-          at_end (TookName s (t ∷ ts)) e (record { spelled = ap (λ (t : Lexeme). t ∷ ts) (lexeme_is t (kinds.Name n) (name_kind t.kind n is)); same = refl; left = tail_of all t ts tail })
+          at_end (TookName s (t ∷ ts)) e (record {
+            spelled = ap (λ (t : Lexeme). t ∷ ts) (lexeme_is t (kinds.Name n) (name_kind t.kind n is));
+            same = refl;
+            left = tail_of all t ts tail;
+          })
 
   -- a tag, or none
   pub record TookTag (s : HeldScopes) (ts : List Lexeme) (x : Found (Option Identifier)) : Type 0 where
@@ -139,8 +146,13 @@ module _ (all : List Lexeme) where
       by_name : (o : Option ℕ) → spelled_name t.kind ≡ o → tag_by o t s ts ≡ done x → TookTag s (t ∷ ts) x
       by_name None is e = at_end (TookTag s (t ∷ ts)) e (record { spelled = refl; same = refl; left = tail })
       by_name (Some n) is e =
-          at_end (TookTag s (t ∷ ts)) e (record { spelled = ap (λ (t : Lexeme). t ∷ ts) (lexeme_is t (kinds.Name n) (name_kind t.kind n is)); same = refl; left = tail_of all t ts tail })
+          at_end (TookTag s (t ∷ ts)) e (record {
+            spelled = ap (λ (t : Lexeme). t ∷ ts) (lexeme_is t (kinds.Name n) (name_kind t.kind n is));
+            same = refl;
+            left = tail_of all t ts tail;
+          })
 
+-- a name that is read leaves one token fewer
 pub name_falls : (s : HeldScopes) (ts : List Lexeme) (x : Found Identifier) → name_at s ts ≡ done x
     → suc (length x.rest) ≡ length ts
 name_falls s [] x e = absurd cc
@@ -150,6 +162,7 @@ name_falls s (t ∷ ts) x e = by_name (spelled_name t.kind) e
     by_name None e = absurd cc
     by_name (Some n) e = ap (λ (x : Found Identifier). suc (length x.rest)) (sym (ok_is e))
 
+-- a tag, read or absent, leaves no more tokens than were given
 pub tag_falls : (s : HeldScopes) (ts : List Lexeme) (x : Found (Option Identifier)) → tag_at s ts ≡ done x
     → length x.rest ≤ length ts
 tag_falls s [] x e = let is = ap (λ (x : Found (Option Identifier)). length x.rest) (ok_is e) in omega (arith, is)
@@ -164,7 +177,8 @@ pub through : (f : HeldScopes → Option HeldScopes) {a b t u : HeldScopes} → 
 through f p e q = rw (← p, q) e
 
 -- what begins with a token that was taken
-pub behind_token : (all : List Lexeme) {T : Type 0} (form : Form T) (room : ℕ) (kind : TokenKind) (s : HeldScopes) (ts : List Lexeme) (y : Found ℕ) (x : Found T)
+pub behind_token : (all : List Lexeme) {T : Type 0} (form : Form T) (room : ℕ) (kind : TokenKind) (s : HeldScopes)
+    (ts : List Lexeme) (y : Found ℕ) (x : Found T)
     → Took all kind s ts y →
     Takes all form room y.scopes (plain_text kind y.tree y.rest) x → Takes all form room s ts x
 behind_token all form room kind s ts y x o h = record {

@@ -18,7 +18,8 @@ use Rattle.c_reading.proofs.ExprLists.{desigs_items}
 
 abbrev pub init_items_items : InitItems → List ListItem
 init_items_items no_init_items = []
-init_items_items (more_init_items ds equal init items) = record { desigs = ds; equal = equal; init = init } ∷ init_items_items items
+init_items_items (more_init_items ds equal init items) =
+    record { desigs = ds; equal = equal; init = init } ∷ init_items_items items
 
 pub init_items_back : (xs : InitItems) → init_items_from (init_items_items xs) ≡ xs
 init_items_back no_init_items = refl
@@ -32,12 +33,16 @@ module _ (all : List Lexeme) where
   other_items_are : (xs : List ListItem) (k : List Lexeme)
       → others_text (list_item_form all) comma_ending xs k ≡ other_init_items_text all (init_items_from xs) k
   other_items_are [] k = refl
-  other_items_are (x ∷ xs) k = ap (λ (k : List Lexeme). separated (desigs_text all x.desigs (some_sign_text puncts.Equal x.equal (init_text all x.init k)))) (other_items_are xs k)
+  other_items_are (x ∷ xs) k =
+      ap (λ (k : List Lexeme). separated
+      (desigs_text all x.desigs (some_sign_text puncts.Equal x.equal (init_text all x.init k)))) (other_items_are xs k)
 
   pub items_are : (xs : List ListItem) (k : List Lexeme)
       → commas_text (list_item_form all) comma_ending xs k ≡ init_items_text all (init_items_from xs) k
   items_are [] k = refl
-  items_are (x ∷ xs) k = ap (λ (k : List Lexeme). desigs_text all x.desigs (some_sign_text puncts.Equal x.equal (init_text all x.init k))) (other_items_are xs k)
+  items_are (x ∷ xs) k =
+      ap (λ (k : List Lexeme). desigs_text all x.desigs (some_sign_text puncts.Equal x.equal (init_text all x.init k)))
+      (other_items_are xs k)
 
   pub comma_end_is : (xs : List ListItem) (last : Option ℕ) (k : List Lexeme)
       → ending_text (list_item_form all) comma_ending last k ≡ some_sign_text puncts.Comma last k
@@ -55,7 +60,8 @@ module _ (all : List Lexeme) where
   pub items_named : (xs : List ListItem) (s : HeldScopes)
       → row_scopes (list_item_form all) xs s ≡ init_items_scopes (init_items_from xs) s
   items_named [] s = refl
-  items_named (x ∷ xs) s = behind_same (behind (desigs_scopes x.desigs s) (init_scopes x.init)) _ _ (λ t. items_named xs t)
+  items_named (x ∷ xs) s =
+      behind_same (behind (desigs_scopes x.desigs s) (init_scopes x.init)) _ _ (λ t. items_named xs t)
 
   pub items_high : (xs : List ListItem) → row_height (list_item_form all) xs ≡ init_items_height (init_items_from xs)
   items_high [] = refl
@@ -83,7 +89,8 @@ module _ (all : List Lexeme) where
   desigs_fit_back no_desigs h plain = tt
   desigs_fit_back (more_desigs (member_desig token name) ds) h plain = ((h.0, refl), desigs_fit_back ds h.1 plain)
   desigs_fit_back (more_desigs (index_desig opening e closing) ds) h plain = ((h.0, refl), desigs_fit_back ds h.1 plain)
-  desigs_fit_back (more_desigs (range_desig opening e dots e2 closing) ds) h plain = ((h.0, refl), desigs_fit_back ds h.1 plain)
+  desigs_fit_back (more_desigs (range_desig opening e dots e2 closing) ds) h plain =
+      ((h.0, refl), desigs_fit_back ds h.1 plain)
   desigs_fit_back (more_desigs (old_desig name colon) ds) h plain = absurd cc
 
   pub desigs_named : (ds : List Desig) (s : HeldScopes)

@@ -1,7 +1,8 @@
 -- What the reader of items takes is spelled so and well formed.
-use Rattle.std.proofs.Common.{◌≡◌, ℕ, suc, ◌≤◌, Bool, true, false, if◌then◌else◌, List, [], ◌∷◌, Option, Some, None, inr, refl, sym, ◌∙◌, ap, subst, arith}
+use Rattle.std.proofs.Common.{◌≡◌, ℕ, suc, ◌≤◌, true, false, if◌then◌else◌, List, [], ◌∷◌, Option, Some, None, inr, refl, sym, ◌∙◌, ap, subst, arith}
 use Rattle.std.specs.Prelude.{◌+◌, ◌-◌, max, not, All, option_map}
 use Rattle.std.proofs.lemmas.List.Elements.{All-nil, All-cons}
+use Rattle.std.proofs.lemmas.Bool.{not-false}
 use Rattle.c_words.specs.declared.kinds.TokenKind.TheVariants as kinds
 use Rattle.c_words.specs.declared.kinds.Punct.TheVariants as puncts
 use Rattle.c_words.specs.declared.kinds.Keyword.TheVariants as keywords
@@ -38,8 +39,10 @@ use Rattle.c_reading.proofs.Ended.{repeated_stops}
 use Rattle.c_reading.proofs.BaseWords.{no_typedef}
 use Rattle.c_reading.proofs.ItemsFalls.{old_declaration_shrinks}
 use Rattle.c_reading.proofs.DeclLists.{attrs_room}
-use Rattle.c_reading.proofs.DeclSound.{no_attrs, declr_high, declr_behind_sound, some_init_sound, behind_first, TookDeclrs, declrs_sound, TookBehind, no_auto, plain_scopes, bare_sound, behind_sound, assembled}
+use Rattle.c_reading.proofs.DeclSound.{no_attrs, declr_behind_sound, some_init_sound, behind_first, TookDeclrs, declrs_sound, TookBehind, no_auto, plain_scopes, bare_sound, behind_sound, assembled}
 use Rattle.c_reading.proofs.StmtSound.{some_scopes, four_up, attrs_end, block_body_sound}
+use Rattle.c_reading.proofs.SpecsSoundBodies.{declr_high}
+use Rattle.c_reading.proofs.DeclrSoundParams.{specs_high}
 
 -- own parameters are directly around the name
 round_more : (d : Declr) → is_round_name d false ≡ true → is_round_name d true ≡ true
@@ -55,6 +58,7 @@ round_more (abs_params d opening ps dots closing) h = absurd cc
 round_more (identifiers d opening names closing) h = absurd cc
 round_more (base_name token) h = absurd cc
 
+-- a declarator that is a bare name is one that parameters may stand around
 bare_round : (d : Declr) (name : ℕ) → bare_name d ≡ Some name → is_round_name d true ≡ true
 bare_round (declr_name token n) name h = refl
 bare_round (declr_paren opening attrs d closing) name h = bare_round d name h
@@ -68,6 +72,7 @@ bare_round (abs_params d opening ps dots closing) name h = absurd cc
 bare_round (identifiers d opening names closing) name h = absurd cc
 bare_round (base_name token) name h = absurd cc
 
+-- a declarator without a list of identifiers that has parameters around its name declares a function
 pub own_round : (d : Declr) (p : OwnParams) → lists_identifiers d ≡ false → own_params d ≡ Some p
     → declares_function d ≡ true
 own_round (declr_name token n) p plain h = absurd cc
@@ -76,7 +81,8 @@ own_round (pointer star words d) p plain h = own_round d p plain h
 own_round (array d opening words size closing) p plain h = own_round d p plain h
 own_round (identifiers d opening names closing) p plain h = absurd cc
 own_round (base_name token) p plain h = absurd cc
-own_round (params d opening ps dots closing) p plain h = by_bare (bare_name d) refl h (λ h. round_more d (own_round d p plain h))
+own_round (params d opening ps dots closing) p plain h =
+    by_bare (bare_name d) refl h (λ h. round_more d (own_round d p plain h))
   where
     by_bare : (o : Option ℕ) → bare_name d ≡ o → or_those_of o ps (own_params d) ≡ Some p
         → (own_params d ≡ Some p → is_round_name d true ≡ true) → is_round_name d true ≡ true
@@ -94,6 +100,7 @@ record Closes (d : Declr) (s : HeldScopes) (closed : HeldScope) : Type 0 where
   same : innermost inside ≡ closed
   round : declares_function d ≡ true
 
+-- the scope that such a declarator closes is that of its own parameters, and it declares a function
 closes : (d : Declr) (s : HeldScopes) (closed : HeldScope) → lists_identifiers d ≡ false
     → Some closed ≡ option_map innermost (own_scope (own_params d) s) → Closes d s closed
 closes d s closed plain h = by_own (own_params d) refl h
@@ -101,7 +108,12 @@ closes d s closed plain h = by_own (own_params d) refl h
     by_scopes : (p : OwnParams) (o : Option HeldScopes) → own_params d ≡ Some p → own_scope (Some p) s ≡ o
         → Some closed ≡ option_map innermost o → Closes d s closed
     by_scopes p None is at h = absurd cc
-    by_scopes p (Some w) is at h = record { inside = w; is = ap (λ (own : Option OwnParams). own_scope own s) is ∙ at; same = sym cc; round = own_round d p plain is }
+    by_scopes p (Some w) is at h = record {
+      inside = w;
+      is = ap (λ (own : Option OwnParams). own_scope own s) is ∙ at;
+      same = sym cc;
+      round = own_round d p plain is;
+    }
 
     by_own : (o : Option OwnParams) → own_params d ≡ o → Some closed ≡ option_map innermost (own_scope o s)
         → Closes d s closed
@@ -137,14 +149,16 @@ bare_item_low : (d b i room : ℕ) → 1 ≤ d → d ≤ (room - 1) - 1 → b �
     → max 0 (max d (max 0 (max b i))) + 1 ≤ room - 1
 bare_item_low d b i room o p q r = omega (arith, o, p, q, r)
 
-module _ (all : List Lexeme) (numbered : IsNumbered all) (tokens : TokenLaws all) (n : ℕ) (inner : Inner) (laws : Laws all n inner) (goes : MixesGoOn) where
+module _ (all : List Lexeme) (numbered : IsNumbered all) (tokens : TokenLaws all) (n : ℕ) (inner : Inner)
+    (laws : Laws all n inner) (goes : MixesGoOn) where
   as_decl_sound : (r : Read Declaration) (room : ℕ) (s : HeldScopes) (ts : List Lexeme) (x : Found Item)
       → ((d : Found Declaration) → r ≡ done d → Takes all (declaration_form all) room s ts d) → as_decl r ≡ done x →
       Takes all (item_form all) room s ts x
   as_decl_sound r room s ts x sound e =
       let a = bind_ok e in
       let h = sound a.0 a.1 in
-      at_end (Takes all (item_form all) room s ts) a.2 (record { spelled = h.spelled; fits = h.fits; named = h.named; low = h.low; left = h.left })
+      at_end (Takes all (item_form all) room s ts) a.2
+      (record { spelled = h.spelled; fits = h.fits; named = h.named; low = h.low; left = h.left })
 
   -- what stands before the first declarator
   record Words (exts : List ℕ) (words : SpecWords) (room : ℕ) (s₀ s : HeldScopes) (ts₀ ts : List Lexeme) : Type 0 where
@@ -168,14 +182,17 @@ module _ (all : List Lexeme) (numbered : IsNumbered all) (tokens : TokenLaws all
     left : IsTail all us
 
   -- a declaration, of which the first declarator was read
-  declaration_first : (exts : List ℕ) (words : SpecWords) (room : ℕ) (first : Reader DeclrItem) (s₀ s : HeldScopes) (ts₀ ts : List Lexeme) (s₁ : HeldScopes) (ts₁ : List Lexeme) (x : Found Declaration)
+  declaration_first : (exts : List ℕ) (words : SpecWords) (room : ℕ) (first : Reader DeclrItem) (s₀ s : HeldScopes)
+      (ts₀ ts : List Lexeme) (s₁ : HeldScopes) (ts₁ : List Lexeme) (x : Found Declaration)
       → Words exts words room s₀ s ts₀ ts →
       ((a : Found DeclrItem) → first s₁ ts₁ ≡ done a → Takes all (declr_item_form all Value) (room - 1) s ts a)
       → ((a : Found DeclrItem) → first s₁ ts₁ ≡ done a → a.tree.before ≡ []) →
       declrs_with inner exts words Value room first s₁ ts₁ ≡ done x → Takes all (declaration_form all) room s₀ ts₀ x
   declaration_first exts words room first s₀ s ts₀ ts s₁ ts₁ x w sound starts e =
-      assembled all numbered tokens n inner laws goes exts words room s₀ s ts₀ ts x w.spelled w.mix w.fits w.stops w.named w.low
-      (of_declrs (declrs_sound all numbered tokens n inner laws exts words Value room first s ts s₁ ts₁ x sound starts e))
+      assembled all numbered tokens n inner laws goes exts words room s₀ s ts₀ ts x w.spelled w.mix w.fits
+      w.stops w.named w.low
+      (of_declrs
+      (declrs_sound all numbered tokens n inner laws exts words Value room first s ts s₁ ts₁ x sound starts e))
     where
       value_kind : has_typedef_word (storage_words words) ≡ false → declared_kind words ≡ Value
       value_kind h = rw h refl
@@ -189,7 +206,8 @@ module _ (all : List Lexeme) (numbered : IsNumbered all) (tokens : TokenLaws all
         spelled = t.spelled;
         fits = t.fits;
         starts = t.starts;
-        named = plain_scopes all numbered tokens n inner laws words t.declrs s x.scopes w.plain (subst (λ (kind : Kind). init_declrs_scopes kind t.declrs s ≡ Some x.scopes) (sym (value_kind w.bare)) t.named);
+        named = plain_scopes all numbered tokens n inner laws words t.declrs s x.scopes w.plain (subst
+            (λ (kind : Kind). init_declrs_scopes kind t.declrs s ≡ Some x.scopes) (sym (value_kind w.bare)) t.named);
         auto = no_auto all numbered tokens n inner laws words t.declrs w.plain;
         low = t.low;
         words_low = inr t.two;
@@ -203,12 +221,15 @@ module _ (all : List Lexeme) (numbered : IsNumbered all) (tokens : TokenLaws all
       → declr_behind inner [] d (room - 1) (release Value u) us ≡ done a →
       Takes all (declr_item_form all Value) (room - 1) s ts a
   declr_behind_first d room s u ts us a f low e =
-      rw f.spelled (declr_behind_sound all numbered tokens n inner laws [] d Value (room - 1) s u us a (no_attrs all) (omega arith) f.fits f.is_name f.plain f.named low f.left e)
+      rw f.spelled (declr_behind_sound all numbered tokens n inner laws [] d Value (room - 1) s u us a (no_attrs all)
+      (omega arith) f.fits f.is_name f.plain f.named low f.left e)
 
   -- behind a declarator and attributes
-  attrs_behind_first : (d : Declr) (attrs : List Attr) (room : ℕ) (s u v : HeldScopes) (ts us vs : List Lexeme) (a : Found DeclrItem)
+  attrs_behind_first : (d : Declr) (attrs : List Attr) (room : ℕ) (s u v : HeldScopes) (ts us vs : List Lexeme)
+      (a : Found DeclrItem)
       → First d s u ts us → us ≡ attrs_text all attrs vs → AreAttrs all attrs → attrs_height attrs ≤ (room - 1) - 1 →
-      v ≡ release Value u → IsTail all vs → declr_height d ≤ (room - 1) - 1 → attrs_behind inner d attrs (room - 1) v vs ≡ done a → Takes all (declr_item_form all Value) (room - 1) s ts a
+      v ≡ release Value u → IsTail all vs → declr_height d ≤ (room - 1) - 1
+      → attrs_behind inner d attrs (room - 1) v vs ≡ done a → Takes all (declr_item_form all Value) (room - 1) s ts a
   unfolding attrs_behind
   attrs_behind_first d attrs room s u v ts us vs a f spelled attrs_fit attrs_low same tail low e =
       let b = bind_ok e in
@@ -216,85 +237,127 @@ module _ (all : List Lexeme) (numbered : IsNumbered all) (tokens : TokenLaws all
       at_end (Takes all (declr_item_form all Value) (room - 1) s ts) b.2 (record {
         spelled = f.spelled ∙ ap (declr_text all d) (spelled ∙ ap (attrs_text all attrs) i.spelled);
         fits = (no_attrs all, f.fits, f.is_name, tt, attrs_fit, i.fits, f.plain);
-        named = behind_is (λ t. some_init_scopes b.0.tree (release Value t)) f.named (through (some_init_scopes b.0.tree) same i.named refl);
-        low = bare_item_low (declr_height d) (attrs_height attrs) (some_init_height b.0.tree) room (declr_high d) low attrs_low i.low;
+        named = behind_is (λ t. some_init_scopes b.0.tree (release Value t)) f.named
+            (through (some_init_scopes b.0.tree) same i.named refl);
+        low = bare_item_low (declr_height d) (attrs_height attrs) (some_init_height b.0.tree) room
+            (declr_high d) low attrs_low i.low;
         left = i.left;
       })
 
-  attrs_behind_bare : (d : Declr) (attrs : List Attr) (room : ℕ) (s : HeldScopes) (ts : List Lexeme) (a : Found DeclrItem)
+  attrs_behind_bare : (d : Declr) (attrs : List Attr) (room : ℕ) (s : HeldScopes) (ts : List Lexeme)
+      (a : Found DeclrItem)
       → attrs_behind inner d attrs room s ts ≡ done a → a.tree.before ≡ []
   unfolding attrs_behind
   attrs_behind_bare d attrs room s ts a e =
       let b = bind_ok e in
       ap (λ (x : Found DeclrItem). x.tree.before) (sym (ok_is b.2))
 
-  function_sound : (exts : List ℕ) (words : SpecWords) (d : Declr) (attrs : List Attr) (closed : HeldScope) (room : ℕ) (s₀ s u v : HeldScopes) (ts₀ ts us vs : List Lexeme) (x : Found Item)
+  function_sound : (exts : List ℕ) (words : SpecWords) (d : Declr) (attrs : List Attr) (closed : HeldScope) (room : ℕ)
+      (s₀ s u v : HeldScopes) (ts₀ ts us vs : List Lexeme) (x : Found Item)
       → Words exts words room s₀ s ts₀ ts → First d s u ts us →
-      Closes d s closed → declr_height d ≤ room - 1 → us ≡ attrs_text all attrs vs → AreAttrs all attrs → attrs_height attrs ≤ room - 1 → v ≡ release Value u → IsTail all vs → kind_at vs ≡ kinds.Punct puncts.OpenBrace →
+      Closes d s closed → declr_height d ≤ room - 1 → us ≡ attrs_text all attrs vs → AreAttrs all attrs
+      → attrs_height attrs ≤ room - 1 → v ≡ release Value u → IsTail all vs
+      → kind_at vs ≡ kinds.Punct puncts.OpenBrace →
       function_with inner exts words d attrs closed room v vs ≡ done x → Takes all (item_form all) room s₀ ts₀ x
   unfolding function_with
-  function_sound exts words d attrs closed room s₀ s u v ts₀ ts us vs x w f c low spelled attrs_fit attrs_low same tail is e =
+  function_sound exts words d attrs closed room s₀ s u v ts₀ ts us vs x w f c low spelled attrs_fit attrs_low same tail
+      is e =
       let a = bind_ok e in
-      let i = block_body_sound all numbered tokens n inner laws goes (room - 1) (reopen closed v) vs a.0 (some_inside room w.two) tail is a.1 in
+      let i = block_body_sound all numbered tokens n inner laws goes (room - 1) (reopen closed v) vs a.0
+      (some_inside room w.two) tail is a.1 in
       let inside : block_items_scopes a.0.tree.items (reopen (innermost c.inside) (release Value u)) ≡ Some a.0.scopes =
-      ap (λ (scope : HeldScope). block_items_scopes a.0.tree.items (reopen scope (release Value u))) c.same ∙ ap (λ (t : HeldScopes). block_items_scopes a.0.tree.items (reopen closed t)) (sym same) ∙ i.named in
+      ap (λ (scope : HeldScope). block_items_scopes a.0.tree.items (reopen scope (release Value u))) c.same
+      ∙ ap (λ (t : HeldScopes). block_items_scopes a.0.tree.items (reopen closed t)) (sym same) ∙ i.named in
       at_end (Takes all (item_form all) room s₀ ts₀) a.2 (record {
-        spelled = w.spelled ∙ ap (λ (k : List Lexeme). extensions_text exts (spec_words_text all words k)) (f.spelled ∙ ap (declr_text all d) (spelled ∙ ap (attrs_text all attrs) i.spelled));
-        fits = (w.mix, w.fits, w.plain, no_typedef (storage_words words) w.bare, f.fits, c.round, attrs_fit, i.fits, i.first);
+        spelled = w.spelled ∙ ap (λ (k : List Lexeme). extensions_text exts (spec_words_text all words k))
+            (f.spelled ∙ ap (declr_text all d) (spelled ∙ ap (attrs_text all attrs) i.spelled));
+        fits = (
+          w.mix,
+          w.fits,
+          w.plain,
+          no_typedef (storage_words words) w.bare,
+          f.fits,
+          c.round,
+          attrs_fit,
+          i.fits,
+          i.first,
+        );
         named = behind_is (λ t. behind (declr_scopes (Some Value) d t) (λ u. behind (own_scope (own_params d) t)
-            (λ w. behind (block_items_scopes a.0.tree.items (reopen (innermost w) (release Value u))) (λ inner. Some (leave inner))))) w.named
-            (behind_is (λ u. behind (own_scope (own_params d) s) (λ w. behind (block_items_scopes a.0.tree.items (reopen (innermost w) (release Value u))) (λ inner. Some (leave inner)))) f.named
-            (behind_is (λ w. behind (block_items_scopes a.0.tree.items (reopen (innermost w) (release Value u))) (λ inner. Some (leave inner))) c.is
+            (λ w. behind (block_items_scopes a.0.tree.items (reopen (innermost w) (release Value u)))
+            (λ inner. Some (leave inner))))) w.named
+            (behind_is (λ u. behind (own_scope (own_params d) s) (λ w. behind (block_items_scopes a.0.tree.items
+            (reopen (innermost w) (release Value u))) (λ inner. Some (leave inner)))) f.named
+            (behind_is (λ w. behind (block_items_scopes a.0.tree.items (reopen (innermost w) (release Value u)))
+            (λ inner. Some (leave inner))) c.is
             (behind_is (λ inner. Some (leave inner)) inside refl)));
-        low = four_up (specs_height words) (declr_height d) (attrs_height attrs) (block_height a.0.tree.items) room w.two w.low low attrs_low i.low;
+        low = four_up (specs_height words) (declr_height d) (attrs_height attrs)
+            (block_height a.0.tree.items) room w.two w.low low attrs_low i.low;
         left = i.left;
       })
 
-  function_or_not_sound : (exts : List ℕ) (words : SpecWords) (d : Declr) (attrs : List Attr) (closed : HeldScope) (room : ℕ) (s₀ s u v : HeldScopes) (ts₀ ts us vs : List Lexeme) (x : Found Item)
+  function_or_not_sound : (exts : List ℕ) (words : SpecWords) (d : Declr) (attrs : List Attr) (closed : HeldScope)
+      (room : ℕ) (s₀ s u v : HeldScopes) (ts₀ ts us vs : List Lexeme) (x : Found Item)
       → Words exts words room s₀ s ts₀ ts → First d s u ts us →
-      Closes d s closed → declr_height d ≤ room - 1 → us ≡ attrs_text all attrs vs → AreAttrs all attrs → least_with attrs ≤ room → v ≡ release Value u → IsTail all vs →
+      Closes d s closed → declr_height d ≤ room - 1 → us ≡ attrs_text all attrs vs → AreAttrs all attrs
+      → least_with attrs ≤ room → v ≡ release Value u → IsTail all vs →
       function_or_not inner exts words d attrs closed room v vs ≡ done x → Takes all (item_form all) room s₀ ts₀ x
   unfolding function_or_not
-  function_or_not_sound exts words d attrs closed room s₀ s u v ts₀ ts us vs x w f c low spelled attrs_fit attrs_low same tail e =
+  function_or_not_sound exts words d attrs closed room s₀ s u v ts₀ ts us vs x w f c low spelled attrs_fit attrs_low
+      same tail e =
       if_ok (is_open_brace (kind_at vs)) e (λ is e.
-      function_sound exts words d attrs closed room s₀ s u v ts₀ ts us vs x w f c low spelled attrs_fit (attrs_room attrs room attrs_low) same tail (open_brace_kind (kind_at vs) is) e) (λ is e.
+      function_sound exts words d attrs closed room s₀ s u v ts₀ ts us vs x w f c low spelled attrs_fit
+      (attrs_room attrs room attrs_low) same tail (open_brace_kind (kind_at vs) is) e) (λ is e.
       if_ok (goes_on_declared (kind_at vs)) e (λ on e.
       let r = fits_ok _ _ _ e in
       let high = asked (declr_height d) room r.0 in
       as_decl_sound (declrs_with inner exts words Value room (attrs_behind inner d attrs (room - 1)) v vs) room s₀ ts₀ x
       (λ a e. declaration_first exts words room (attrs_behind inner d attrs (room - 1)) s₀ s ts₀ ts v vs a w
-      (λ b e. attrs_behind_first d attrs room s u v ts us vs b f spelled attrs_fit (attrs_least attrs room (declr_height d) (declr_high d) r.0 attrs_low) same tail high e) (λ b e. attrs_behind_bare d attrs (room - 1) v vs b e) e) r.1) (λ on e. absurd cc))
+      (λ b e. attrs_behind_first d attrs room s u v ts us vs b f spelled attrs_fit
+      (attrs_least attrs room (declr_height d) (declr_high d) r.0 attrs_low) same tail high e)
+      (λ b e. attrs_behind_bare d attrs (room - 1) v vs b e) e) r.1) (λ on e. absurd cc))
     where
       attrs_least : (attrs : List Attr) (room d : ℕ) → 1 ≤ d → 2 + d ≤ room → least_with attrs ≤ room
           → attrs_height attrs ≤ (room - 1) - 1
       attrs_least [] room d a b c = omega arith
       attrs_least (x ∷ attrs) room d a b c = omega (arith, a, b)
 
-  behind_function_sound : (exts : List ℕ) (words : SpecWords) (d : Declr) (closed : HeldScope) (room : ℕ) (s₀ s u : HeldScopes) (ts₀ ts us : List Lexeme) (x : Found Item)
+  behind_function_sound : (exts : List ℕ) (words : SpecWords) (d : Declr) (closed : HeldScope) (room : ℕ)
+      (s₀ s u : HeldScopes) (ts₀ ts us : List Lexeme) (x : Found Item)
       → Words exts words room s₀ s ts₀ ts → First d s u ts us →
-      Closes d s closed → declr_height d ≤ room - 1 → behind_function inner exts words d closed room (release Value u) us ≡ done x → Takes all (item_form all) room s₀ ts₀ x
+      Closes d s closed → declr_height d ≤ room - 1
+      → behind_function inner exts words d closed room (release Value u) us ≡ done x
+      → Takes all (item_form all) room s₀ ts₀ x
   unfolding behind_function
   behind_function_sound exts words d closed room s₀ s u ts₀ ts us x w f c low e =
       if_ok (is_asm (kind_at us)) e (λ is e.
       let r = fits_ok _ _ _ e in
-      as_decl_sound (declrs_with inner exts words Value room (declr_behind inner [] d (room - 1)) (release Value u) us) room s₀ ts₀ x
-      (λ a e. declaration_first exts words room (declr_behind inner [] d (room - 1)) s₀ s ts₀ ts (release Value u) us a w
+      as_decl_sound
+      (declrs_with inner exts words Value room (declr_behind inner [] d (room - 1)) (release Value u) us) room s₀ ts₀ x
+      (λ a e. declaration_first exts words room (declr_behind inner [] d (room - 1)) s₀ s ts₀ ts
+      (release Value u) us a w
       (λ b e. declr_behind_first d room s u ts us b f (asked (declr_height d) room r.0) e)
       (λ b e. behind_first all numbered tokens n inner laws [] d (room - 1) (release Value u) us b e) e) r.1) (λ is e.
       let a = bind_ok e in
       let i = tokens.attrs_sound room (release Value u) us a.0 f.left a.1 in
-      function_or_not_sound exts words d a.0.tree closed room s₀ s u a.0.scopes ts₀ ts us a.0.rest x w f c low i.spelled i.fits i.low (some_scopes (release Value u) a.0.scopes i.named) i.left a.2)
+      function_or_not_sound exts words d a.0.tree closed room s₀ s u a.0.scopes ts₀ ts us a.0.rest x w f c low i.spelled
+      i.fits i.low (some_scopes (release Value u) a.0.scopes i.named) i.left a.2)
 
-  behind_declr_sound : (exts : List ℕ) (words : SpecWords) (d : Declr) (closed : Option HeldScope) (room : ℕ) (s₀ s u : HeldScopes) (ts₀ ts us : List Lexeme) (x : Found Item)
+  behind_declr_sound : (exts : List ℕ) (words : SpecWords) (d : Declr) (closed : Option HeldScope) (room : ℕ)
+      (s₀ s u : HeldScopes) (ts₀ ts us : List Lexeme) (x : Found Item)
       → Words exts words room s₀ s ts₀ ts → First d s u ts us →
-      closed ≡ option_map innermost (own_scope (own_params d) s) → declr_height d ≤ declr_room true closed (room - 2) → behind_declr inner exts words d closed room (release Value u) us ≡ done x → Takes all (item_form all) room s₀ ts₀ x
+      closed ≡ option_map innermost (own_scope (own_params d) s) → declr_height d ≤ declr_room true closed (room - 2)
+      → behind_declr inner exts words d closed room (release Value u) us ≡ done x
+      → Takes all (item_form all) room s₀ ts₀ x
   behind_declr_sound exts words d None room s₀ s u ts₀ ts us x w f is low e =
-      as_decl_sound (declrs_with inner exts words Value room (declr_behind inner [] d (room - 1)) (release Value u) us) room s₀ ts₀ x
-      (λ a e. declaration_first exts words room (declr_behind inner [] d (room - 1)) s₀ s ts₀ ts (release Value u) us a w
+      as_decl_sound
+      (declrs_with inner exts words Value room (declr_behind inner [] d (room - 1)) (release Value u) us) room s₀ ts₀ x
+      (λ a e. declaration_first exts words room (declr_behind inner [] d (room - 1)) s₀ s ts₀ ts
+      (release Value u) us a w
       (λ b e. declr_behind_first d room s u ts us b f (last_two (declr_height d) room low) e)
       (λ b e. behind_first all numbered tokens n inner laws [] d (room - 1) (release Value u) us b e) e) e
   behind_declr_sound exts words d (Some closed) room s₀ s u ts₀ ts us x w f is low e =
-      behind_function_sound exts words d closed room s₀ s u ts₀ ts us x w f (closes d s closed f.plain is) (own_room (declr_height d) room w.two low) e
+      behind_function_sound exts words d closed room s₀ s u ts₀ ts us x w f (closes d s closed f.plain is)
+      (own_room (declr_height d) room w.two low) e
 
   -- Functions with a list of identifiers.
 
@@ -324,9 +387,12 @@ module _ (all : List Lexeme) (numbered : IsNumbered all) (tokens : TokenLaws all
       let i = tokens.exts_sound room s ts a.0 tail a.1 in
       let j = specs_here_sound all n inner laws Declaring room a.0.scopes a.0.rest b.0 i.left b.1 in
       let same = some_scopes s a.0.scopes i.named in
-      let named : spec_words_scopes b.0.tree s ≡ Some b.0.scopes = subst (λ (t : HeldScopes). spec_words_scopes b.0.tree t ≡ Some b.0.scopes) same j.named in
-      assembled all numbered tokens n inner laws goes a.0.tree b.0.tree room s b.0.scopes ts b.0.rest x (i.spelled ∙ ap (extensions_text a.0.tree) j.spelled) j.fits.0 j.fits.1
-      (specs_here_stops all n inner laws Declaring room a.0.scopes a.0.rest b.0 i.left b.1) named (one_inside (specs_height b.0.tree) room j.low)
+      let named : spec_words_scopes b.0.tree s ≡ Some b.0.scopes =
+      subst (λ (t : HeldScopes). spec_words_scopes b.0.tree t ≡ Some b.0.scopes) same j.named in
+      assembled all numbered tokens n inner laws goes a.0.tree b.0.tree room s b.0.scopes ts b.0.rest x
+      (i.spelled ∙ ap (extensions_text a.0.tree) j.spelled) j.fits.0 j.fits.1
+      (specs_here_stops all n inner laws Declaring room a.0.scopes a.0.rest b.0 i.left b.1) named
+      (one_inside (specs_height b.0.tree) room j.low)
       (behind_sound all numbered tokens n inner laws a.0.tree b.0.tree room b.0.scopes b.0.rest x j.left b.2)
 
   -- attributes before the first declaration are the function's
@@ -342,13 +408,11 @@ module _ (all : List Lexeme) (numbered : IsNumbered all) (tokens : TokenLaws all
       → max w (max d (max a (max ds b))) + 1 ≤ room
   five_up w d a ds b room o p q r s t = omega (arith, o, p, q, r, s, t)
 
-  brace_is : (b : Bool) → not b ≡ false → b ≡ true
-  brace_is true e = refl
-  brace_is false e = absurd cc
-
-  old_function_sound : (exts : List ℕ) (words : SpecWords) (d : Declr) (room : ℕ) (s₀ s u : HeldScopes) (ts₀ ts us : List Lexeme) (x : Found Item)
+  old_function_sound : (exts : List ℕ) (words : SpecWords) (d : Declr) (room : ℕ) (s₀ s u : HeldScopes)
+      (ts₀ ts us : List Lexeme) (x : Found Item)
       → Words exts words room s₀ s ts₀ ts → ts ≡ declr_text all d us → IsDeclr all d →
-      lists_identifiers d ≡ true → declr_scopes (Some Value) d s ≡ Some u → declr_height d ≤ room - 1 → IsTail all us → old_function_with inner exts words d room u us ≡ done x → Takes all (item_form all) room s₀ ts₀ x
+      lists_identifiers d ≡ true → declr_scopes (Some Value) d s ≡ Some u → declr_height d ≤ room - 1 → IsTail all us
+      → old_function_with inner exts words d room u us ≡ done x → Takes all (item_form all) room s₀ ts₀ x
   unfolding old_function_with
   old_function_sound exts words d room s₀ s u ts₀ ts us x w spelled fit lists named low tail e =
       let a = bind_ok e in
@@ -356,14 +420,22 @@ module _ (all : List Lexeme) (numbered : IsNumbered all) (tokens : TokenLaws all
       let c = bind_ok b.2 in
       let i = tokens.attrs_sound room u us a.0 tail a.1 in
       let same = some_scopes u a.0.scopes i.named in
-      let j = repeated_sound (λ kind. not (is_open_brace kind)) (old_declaration inner (room - 1)) all (declaration_form all) (room - 1) (old_declaration_sound (room - 1)) (enter a.0.scopes) a.0.rest b.0 i.left b.1 in
-      let brace : is_open_brace (kind_at b.0.rest) ≡ true = brace_is (is_open_brace (kind_at b.0.rest))
-      (repeated_stops (λ kind. not (is_open_brace kind)) (old_declaration inner (room - 1)) (old_declaration_shrinks all tokens n inner laws (room - 1)) (enter a.0.scopes) a.0.rest b.0 b.1) in
-      let l = block_body_sound all numbered tokens n inner laws goes (room - 1) (reopen (innermost b.0.scopes) (release Value (leave b.0.scopes))) b.0.rest c.0 (some_inside room w.two) j.left (open_brace_kind (kind_at b.0.rest) brace) c.1 in
+      let j = repeated_sound (λ kind. not (is_open_brace kind)) (old_declaration inner (room - 1)) all
+      (declaration_form all) (room - 1) (old_declaration_sound (room - 1)) (enter a.0.scopes) a.0.rest b.0 i.left b.1 in
+      let brace : is_open_brace (kind_at b.0.rest) ≡ true = not-false (is_open_brace (kind_at b.0.rest))
+      (repeated_stops (λ kind. not (is_open_brace kind)) (old_declaration inner (room - 1))
+      (old_declaration_shrinks all tokens n inner laws (room - 1)) (enter a.0.scopes) a.0.rest b.0 b.1) in
+      let l = block_body_sound all numbered tokens n inner laws goes (room - 1)
+      (reopen (innermost b.0.scopes) (release Value (leave b.0.scopes))) b.0.rest c.0 (some_inside room w.two) j.left
+      (open_brace_kind (kind_at b.0.rest) brace) c.1 in
       let after : a.0.rest ≡ declarations_text all b.0.tree b.0.rest = j.spelled ∙ rows_text b.0.tree b.0.rest in
-      let inside : declarations_scopes b.0.tree (enter u) ≡ Some b.0.scopes = ap (λ (t : HeldScopes). declarations_scopes b.0.tree (enter t)) (sym same) ∙ sym (rows_scopes b.0.tree (enter a.0.scopes)) ∙ j.named in
+      let inside : declarations_scopes b.0.tree (enter u) ≡ Some b.0.scopes =
+      ap (λ (t : HeldScopes). declarations_scopes b.0.tree (enter t)) (sym same)
+      ∙ sym (rows_scopes b.0.tree (enter a.0.scopes)) ∙ j.named in
       at_end (Takes all (item_form all) room s₀ ts₀) c.2 (record {
-        spelled = w.spelled ∙ ap (λ (k : List Lexeme). extensions_text exts (spec_words_text all words k)) (spelled ∙ ap (declr_text all d) (i.spelled ∙ ap (attrs_text all a.0.tree) (after ∙ ap (declarations_text all b.0.tree) l.spelled)));
+        spelled = w.spelled ∙ ap (λ (k : List Lexeme). extensions_text exts (spec_words_text all words k))
+            (spelled ∙ ap (declr_text all d) (i.spelled
+            ∙ ap (attrs_text all a.0.tree) (after ∙ ap (declarations_text all b.0.tree) l.spelled)));
         fits = (
           w.mix,
           w.fits,
@@ -375,44 +447,66 @@ module _ (all : List Lexeme) (numbered : IsNumbered all) (tokens : TokenLaws all
           rows_fit b.0.tree j.fits,
           l.fits,
           l.first,
-          no_attribute_first b.0.tree b.0.rest (ap (λ (k : List Lexeme). is_attribute (kind_at k)) (sym after) ∙ attrs_end all numbered tokens n inner laws goes room u us a.0 a.1),
+          no_attribute_first b.0.tree b.0.rest (ap (λ (k : List Lexeme). is_attribute (kind_at k)) (sym after)
+              ∙ attrs_end all numbered tokens n inner laws goes room u us a.0 a.1),
         );
-        named = behind_is (λ t. behind (declr_scopes (Some Value) d t) (λ u. behind (declarations_scopes b.0.tree (enter u))
-            (λ w. behind (block_items_scopes c.0.tree.items (reopen (innermost w) (release Value (leave w)))) (λ inner. Some (leave inner))))) w.named
-            (behind_is (λ u. behind (declarations_scopes b.0.tree (enter u)) (λ w. behind (block_items_scopes c.0.tree.items (reopen (innermost w) (release Value (leave w)))) (λ inner. Some (leave inner)))) named
-            (behind_is (λ w. behind (block_items_scopes c.0.tree.items (reopen (innermost w) (release Value (leave w)))) (λ inner. Some (leave inner))) inside
+        named =
+            behind_is (λ t. behind (declr_scopes (Some Value) d t) (λ u. behind (declarations_scopes b.0.tree (enter u))
+            (λ w. behind (block_items_scopes c.0.tree.items (reopen (innermost w) (release Value (leave w))))
+            (λ inner. Some (leave inner))))) w.named
+            (behind_is (λ u. behind (declarations_scopes b.0.tree (enter u)) (λ w. behind (block_items_scopes
+            c.0.tree.items (reopen (innermost w) (release Value (leave w)))) (λ inner. Some (leave inner)))) named
+            (behind_is (λ w. behind (block_items_scopes c.0.tree.items (reopen (innermost w) (release Value (leave w))))
+            (λ inner. Some (leave inner))) inside
             (behind_is (λ inner. Some (leave inner)) l.named refl)));
-        low = five_up (specs_height words) (declr_height d) (attrs_height a.0.tree) (declarations_height b.0.tree) (block_height c.0.tree.items) room w.two w.low low (attrs_room a.0.tree room i.low)
+        low = five_up (specs_height words) (declr_height d) (attrs_height a.0.tree) (declarations_height b.0.tree)
+            (block_height c.0.tree.items) room w.two w.low low (attrs_room a.0.tree room i.low)
             (subst (λ (h : ℕ). h ≤ room - 1) (rows_height b.0.tree) j.low) l.low;
         left = l.left;
       })
 
-  first_declr_sound : (exts : List ℕ) (words : SpecWords) (room : ℕ) (s₀ s : HeldScopes) (ts₀ ts : List Lexeme) (x : Found Item)
+  first_declr_sound : (exts : List ℕ) (words : SpecWords) (room : ℕ) (s₀ s : HeldScopes) (ts₀ ts : List Lexeme)
+      (x : Found Item)
       → Words exts words room s₀ s ts₀ ts → IsTail all ts → first_declr inner exts words room s ts ≡ done x →
       Takes all (item_form all) room s₀ ts₀ x
   unfolding first_declr
   first_declr_sound exts words room s₀ s ts₀ ts x w tail e =
       let a = bind_ok e in
       let b = bind_ok a.2 in
-      of_declr a.0 b.0 (laws.declrs.sound Named (Some Value) true (room - 2) s ts a.0 tail a.1) (present_ok a.0.tree.declr a.0.scopes a.0.rest b.0 b.1) b.2
+      of_declr a.0 b.0 (laws.declrs.sound Named (Some Value) true (room - 2) s ts a.0 tail a.1)
+      (present_ok a.0.tree.declr a.0.scopes a.0.rest b.0 b.1) b.2
     where
       of_found : (d : Declr) (declared : Found Declared)
           → TakesDeclr all Named (Some Value) true (room - 2) s ts declared → declared.tree.declr ≡ some_declr d →
           (if lists_identifiers d then old_function_with inner exts words d room declared.scopes declared.rest
-          else behind_declr inner exts words d declared.tree.closed room (release Value declared.scopes) declared.rest) ≡ done x → Takes all (item_form all) room s₀ ts₀ x
+          else behind_declr inner exts words d declared.tree.closed room (release Value declared.scopes) declared.rest)
+          ≡ done x → Takes all (item_form all) room s₀ ts₀ x
       of_found d a t is e =
           if_ok (lists_identifiers d) e (λ lists e.
-          old_function_sound exts words d room s₀ s a.scopes ts₀ ts a.rest x w (rw is at t.spelled) (rw is at t.fits).0 lists (rw is at t.named) (old_room a.tree.closed (declr_height d) room w.two (rw is at t.low)) t.left e) (λ plain e.
+          old_function_sound exts words d room s₀ s a.scopes ts₀ ts a.rest x w (rw is at t.spelled)
+          (rw is at t.fits).0 lists (rw is at t.named)
+          (old_room a.tree.closed (declr_height d) room w.two (rw is at t.low)) t.left e) (λ plain e.
           behind_declr_sound exts words d a.tree.closed room s₀ s a.scopes ts₀ ts a.rest x w
-          (record { spelled = rw is at t.spelled; fits = (rw is at t.fits).0; is_name = (rw is at t.fits).1; plain = plain; named = rw is at t.named; left = t.left })
+          (record {
+            spelled = rw is at t.spelled;
+            fits = (rw is at t.fits).0;
+            is_name = (rw is at t.fits).1;
+            plain = plain;
+            named = rw is at t.named;
+            left = t.left;
+          })
           (rw is at t.closed) (rw is at t.low) e)
 
       of_declr : (a : Found Declared) (b : Found Declr) → TakesDeclr all Named (Some Value) true (room - 2) s ts a
           → (a.tree.declr ≡ some_declr b.tree) × (found b.tree a.scopes a.rest ≡ b) →
           (if lists_identifiers b.tree then old_function_with inner exts words b.tree room b.scopes b.rest
-          else behind_declr inner exts words b.tree a.tree.closed room (release Value b.scopes) b.rest) ≡ done x → Takes all (item_form all) room s₀ ts₀ x
-      of_declr a b t p e = of_found b.tree a t p.0 (subst (λ (b' : Found Declr). (if lists_identifiers b.tree then old_function_with inner exts words b.tree room b'.scopes b'.rest
-          else behind_declr inner exts words b.tree a.tree.closed room (release Value b'.scopes) b'.rest) ≡ done x) (sym p.1) e)
+          else behind_declr inner exts words b.tree a.tree.closed room (release Value b.scopes) b.rest) ≡ done x
+          → Takes all (item_form all) room s₀ ts₀ x
+      of_declr a b t p e =
+          of_found b.tree a t p.0 (subst (λ (b' : Found Declr).
+          (if lists_identifiers b.tree then old_function_with inner exts words b.tree room b'.scopes b'.rest
+          else behind_declr inner exts words b.tree a.tree.closed room (release Value b'.scopes) b'.rest)
+          ≡ done x) (sym p.1) e)
 
   declared_item_sound : (room : ℕ) → IsSound all (item_form all) room (declared_item inner room)
   unfolding declared_item
@@ -423,24 +517,36 @@ module _ (all : List Lexeme) (numbered : IsNumbered all) (tokens : TokenLaws all
       let j = specs_here_sound all n inner laws Declaring room a.0.scopes a.0.rest b.0 i.left b.1 in
       let stops = specs_here_stops all n inner laws Declaring room a.0.scopes a.0.rest b.0 i.left b.1 in
       let same = some_scopes s a.0.scopes i.named in
-      let named : spec_words_scopes b.0.tree s ≡ Some b.0.scopes = subst (λ (t : HeldScopes). spec_words_scopes b.0.tree t ≡ Some b.0.scopes) same j.named in
+      let named : spec_words_scopes b.0.tree s ≡ Some b.0.scopes =
+      subst (λ (t : HeldScopes). spec_words_scopes b.0.tree t ≡ Some b.0.scopes) same j.named in
       let spelled = i.spelled ∙ ap (extensions_text a.0.tree) j.spelled in
       let low = one_inside (specs_height b.0.tree) room j.low in
       if_ok (has_auto b.0.tree) b.2 (λ auto e.
-      as_decl_sound _ room s ts x (λ d e. assembled all numbered tokens n inner laws goes a.0.tree b.0.tree room s b.0.scopes ts b.0.rest d spelled j.fits.0 j.fits.1 stops named low
-      (behind_sound all numbered tokens n inner laws a.0.tree b.0.tree room b.0.scopes b.0.rest d j.left e)) e) (λ plain e.
+      as_decl_sound _ room s ts x (λ d e. assembled all numbered tokens n inner laws goes a.0.tree b.0.tree room s
+      b.0.scopes ts b.0.rest d spelled j.fits.0 j.fits.1 stops named low
+      (behind_sound all numbered tokens n inner laws a.0.tree b.0.tree room b.0.scopes b.0.rest d j.left e)) e)
+      (λ plain e.
       if_ok (is_semicolon (kind_at b.0.rest)) e (λ is e.
-      as_decl_sound _ room s ts x (λ d e. assembled all numbered tokens n inner laws goes a.0.tree b.0.tree room s b.0.scopes ts b.0.rest d spelled j.fits.0 j.fits.1 stops named low
-      (bare_sound all numbered tokens n inner laws a.0.tree b.0.tree room b.0.scopes b.0.rest d plain j.left (semicolon_kind (kind_at b.0.rest) is) e)) e) (λ is e.
+      as_decl_sound _ room s ts x (λ d e. assembled all numbered tokens n inner laws goes a.0.tree b.0.tree room s
+      b.0.scopes ts b.0.rest d spelled j.fits.0 j.fits.1 stops named low
+      (bare_sound all numbered tokens n inner laws a.0.tree b.0.tree room b.0.scopes b.0.rest d plain j.left
+      (semicolon_kind (kind_at b.0.rest) is) e)) e) (λ is e.
       if_ok (has_typedef_word (storage_words b.0.tree)) e (λ is e.
-      as_decl_sound _ room s ts x (λ d e. assembled all numbered tokens n inner laws goes a.0.tree b.0.tree room s b.0.scopes ts b.0.rest d spelled j.fits.0 j.fits.1 stops named low
+      as_decl_sound _ room s ts x (λ d e. assembled all numbered tokens n inner laws goes a.0.tree b.0.tree room s
+      b.0.scopes ts b.0.rest d spelled j.fits.0 j.fits.1 stops named low
       (behind_sound all numbered tokens n inner laws a.0.tree b.0.tree room b.0.scopes b.0.rest d j.left e)) e) (λ is e.
       first_declr_sound a.0.tree b.0.tree room s b.0.scopes ts b.0.rest x
-      (record { spelled = spelled; mix = j.fits.0; fits = j.fits.1; named = named; low = low; two = two_inside (specs_height b.0.tree) room (words_high b.0.tree) j.low; bare = is; plain = plain; stops = stops }) j.left e)))
-    where
-      words_high : (ws : SpecWords) → 1 ≤ specs_height ws
-      words_high no_words = omega arith
-      words_high (more_words w ws) = let rest : 1 ≤ specs_height ws = words_high ws in omega (arith, rest)
+      (record {
+        spelled = spelled;
+        mix = j.fits.0;
+        fits = j.fits.1;
+        named = named;
+        low = low;
+        two = two_inside (specs_height b.0.tree) room (specs_high b.0.tree) j.low;
+        bare = is;
+        plain = plain;
+        stops = stops;
+      }) j.left e)))
 
   pub item_sound : (room : ℕ) → IsSound all (item_form all) room (item_with inner room)
   unfolding item_with asm_item_with
@@ -449,7 +555,8 @@ module _ (all : List Lexeme) (numbered : IsNumbered all) (tokens : TokenLaws all
       let r = fits_ok _ _ _ e in
       let a = bind_ok r.1 in
       let o = took all (kinds.Punct puncts.Semicolon) s ts a.0 tail (semicolon_kind (kind_at ts) is) a.1 in
-      at_end (Takes all (item_form all) room s ts) a.2 (record { spelled = o.spelled; fits = tt; named = ap Some (sym o.same); low = r.0; left = o.left })) (λ is e.
+      at_end (Takes all (item_form all) room s ts) a.2
+      (record { spelled = o.spelled; fits = tt; named = ap Some (sym o.same); low = r.0; left = o.left })) (λ is e.
       if_ok (is_asm (kind_at ts)) e (λ is e.
       let r = fits_ok _ _ _ e in
       let a = bind_ok r.1 in
@@ -457,9 +564,11 @@ module _ (all : List Lexeme) (numbered : IsNumbered all) (tokens : TokenLaws all
       let c = bind_ok b.2 in
       let o = took all (kinds.Keyword keywords.Asm) s ts a.0 tail (asm_kind (kind_at ts) is) a.1 in
       let i = tokens.group_sound 0 a.0.scopes a.0.rest b.0 o.left b.1 in
-      let q = took_token all is_semicolon (kinds.Punct puncts.Semicolon) semicolon_kind b.0.scopes b.0.rest c.0 i.left c.1 in
+      let q =
+      took_token all is_semicolon (kinds.Punct puncts.Semicolon) semicolon_kind b.0.scopes b.0.rest c.0 i.left c.1 in
       at_end (Takes all (item_form all) room s ts) c.2 (record {
-        spelled = o.spelled ∙ ap (keyword_text keywords.Asm a.0.tree) (i.spelled ∙ ap (group_text all b.0.tree) q.spelled);
+        spelled =
+            o.spelled ∙ ap (keyword_text keywords.Asm a.0.tree) (i.spelled ∙ ap (group_text all b.0.tree) q.spelled);
         fits = i.fits;
         named = ap Some (sym (q.same ∙ some_scopes a.0.scopes b.0.scopes i.named ∙ o.same));
         low = r.0;
@@ -469,5 +578,6 @@ module _ (all : List Lexeme) (numbered : IsNumbered all) (tokens : TokenLaws all
       let r = fits_ok _ _ _ e in
       let a = bind_ok r.1 in
       let i = tokens.assert_sound room s ts a.0 tail a.1 in
-      at_end (Takes all (item_form all) room s ts) a.2 (record { spelled = i.spelled; fits = i.fits; named = i.named; low = r.0; left = i.left })) (λ is e.
+      at_end (Takes all (item_form all) room s ts) a.2
+      (record { spelled = i.spelled; fits = i.fits; named = i.named; low = r.0; left = i.left })) (λ is e.
       declared_item_sound room s ts x tail e)))

@@ -124,10 +124,6 @@ pub abstract_no_attribute : (kind : TokenKind) → begins_abstract kind ≡ true
 abstract_no_attribute (kinds.Keyword keywords.Attribute) e = absurd cc
 abstract_no_attribute kind e = refl
 
-pub and_false : (b : Bool) → (b && false) ≡ false
-and_false true = refl
-and_false false = refl
-
 -- what an expression begins with begins no specifiers, and the other way round
 pub expr_no_specs : (s : HeldScopes) (kind : TokenKind) → begins_expr s kind ≡ true → begins_specs s kind ≡ false
 expr_no_specs s (kinds.Name name) e = by_kind (names_type s name) refl e
@@ -181,6 +177,7 @@ named_ends_specs (kinds.Name name) e base = refl
 named_ends_specs (kinds.Keyword keywords.BaseWord) e base = absurd cc
 named_ends_specs kind e base = absurd cc
 
+-- what begins a declarator without a name ends specifiers
 pub abstract_ends_specs : (kind : TokenKind) → begins_abstract kind ≡ true → ends_specs kind ≡ true
 abstract_ends_specs (kinds.Punct puncts.Star) e = refl
 abstract_ends_specs (kinds.Punct puncts.OpenParen) e = refl
@@ -194,15 +191,6 @@ default_kind kind e = absurd cc
 pub base_kind : (kind : TokenKind) → is_base_word kind ≡ true → kind ≡ kinds.Keyword keywords.BaseWord
 base_kind (kinds.Keyword keywords.BaseWord) e = refl
 base_kind kind e = absurd cc
-
--- the parts of a test of two
-pub both_left : (a b : Bool) → (a && b) ≡ true → a ≡ true
-both_left true b e = refl
-both_left false b e = e
-
-pub both_right : (a b : Bool) → (a && b) ≡ true → b ≡ true
-both_right true b e = e
-both_right false b e = absurd cc
 
 pub both : {a b : Bool} → a ≡ true → b ≡ true → (a && b) ≡ true
 both h k = rw (h, k) refl

@@ -1,6 +1,7 @@
 -- Declarations of labels, which stand before all other items of a block.
 use Rattle.std.proofs.Common.{◌≡◌, ℕ, ◌<◌, ◌≤◌, Bool, true, false, List, [], ◌∷◌, ◌++◌, Some, refl, sym, ◌∙◌, ap, arith}
 use Rattle.std.specs.Prelude.{◌+◌, ◌-◌, max, not, ◌&&◌}
+use Rattle.std.proofs.lemmas.Option.{same_Some}
 use Rattle.c_words.specs.declared.kinds.TokenKind.{TokenKind}
 use Rattle.c_words.specs.declared.kinds.TokenKind.TheVariants as kinds
 use Rattle.c_words.specs.declared.kinds.Keyword.TheVariants as keywords
@@ -38,10 +39,20 @@ flat_names (x ∷ xs) s = flat_names xs s
 module _ (all : List Lexeme) where
   -- declarations of labels, and all other items
   abbrev pub labels_form : Form BlockItem
-  labels_form = record { text = block_item_text all; Fits = λ x. IsBlockItem all x × (is_labels x ≡ true); scopes = block_item_scopes; height = block_item_height }
+  labels_form = record {
+    text = block_item_text all;
+    Fits = λ x. IsBlockItem all x × (is_labels x ≡ true);
+    scopes = block_item_scopes;
+    height = block_item_height;
+  }
 
   abbrev pub plain_form : Form BlockItem
-  plain_form = record { text = block_item_text all; Fits = λ x. IsBlockItem all x × (is_labels x ≡ false); scopes = block_item_scopes; height = block_item_height }
+  plain_form = record {
+    text = block_item_text all;
+    Fits = λ x. IsBlockItem all x × (is_labels x ≡ false);
+    scopes = block_item_scopes;
+    height = block_item_height;
+  }
 
   -- the items of a block, the labels first
 
@@ -82,7 +93,8 @@ module _ (all : List Lexeme) where
   items_named [] (y ∷ ys) s t u h g =
       let same : s ≡ t = cc in
       let b = behind_ok (block_item_scopes y t) (row_scopes plain_form ys) u g in
-      behind_is (block_items_scopes (block_items_from ys)) (ap (block_item_scopes y) same ∙ b.1) (items_named [] ys b.0 b.0 u refl b.2)
+      behind_is (block_items_scopes (block_items_from ys)) (ap (block_item_scopes y) same ∙ b.1)
+      (items_named [] ys b.0 b.0 u refl b.2)
   items_named (x ∷ xs) ys s t u h g =
       let b = behind_ok (block_item_scopes x s) (row_scopes labels_form xs) t h in
       behind_is (block_items_scopes (block_items_from (xs ++ ys))) b.1 (items_named xs ys b.0 t u b.2 g)
@@ -200,11 +212,14 @@ module _ (all : List Lexeme) where
         let b = bind_ok a.2 in
         let c = bind_ok b.2 in
         let o = took all (kinds.Keyword keywords.LabelWord) s ts a.0 tail (label_word_kind (kind_at ts) is) a.1 in
-        let n = names_sound (λ x s. Some s) name_at names_shrink all numbered name_sound a.0.scopes a.0.rest b.0 o.left b.1 in
-        let q = took_token all is_semicolon (kinds.Punct puncts.Semicolon) semicolon_kind b.0.scopes b.0.rest c.0 n.left c.1 in
+        let n =
+        names_sound (λ x s. Some s) name_at names_shrink all numbered name_sound a.0.scopes a.0.rest b.0 o.left b.1 in
+        let q =
+        took_token all is_semicolon (kinds.Punct puncts.Semicolon) semicolon_kind b.0.scopes b.0.rest c.0 n.left c.1 in
         let same : Some a.0.scopes ≡ Some b.0.scopes = sym (flat_names b.0.tree a.0.scopes) ∙ n.named in
         at_end (Takes all labels_form room s ts) c.2 (record {
-          spelled = o.spelled ∙ ap (keyword_text keywords.LabelWord a.0.tree) (n.spelled ∙ ap (names_text b.0.tree) q.spelled);
+          spelled = o.spelled
+              ∙ ap (keyword_text keywords.LabelWord a.0.tree) (n.spelled ∙ ap (names_text b.0.tree) q.spelled);
           fits = (n.some, refl);
           named = ap Some (sym o.same) ∙ same ∙ ap Some (sym q.same);
           low = r.0;
@@ -220,8 +235,7 @@ module _ (all : List Lexeme) where
     labels_complete room (block_labels keyword names semi) s t k fit is named low =
         let same : s ≡ t = cc in
         fits_is 1 room (block_item_text all (block_labels keyword names semi) k) _ low ∙ bind_is _ refl
-        (bind_is _ (names_complete (λ x s. Some s) name_at names_shrink (λ x s t k e. ap (λ (u : HeldScopes). done (found x u k)) (some_is s t e)) names s s (sign_text puncts.Semicolon semi k) fit (flat_names names s) refl)
+        (bind_is _ (names_complete (λ x s. Some s) name_at names_shrink
+        (λ x s t k e. ap (λ (u : HeldScopes). done (found x u k)) (same_Some s t e)) names s s
+        (sign_text puncts.Semicolon semi k) fit (flat_names names s) refl)
         (bind_is _ refl (ap (λ (u : HeldScopes). done (found (block_labels keyword names semi) u k)) same)))
-      where
-        some_is : (s t : HeldScopes) → Some s ≡ Some t → s ≡ t
-        some_is s t e = cc

@@ -18,13 +18,16 @@ module _ {S : Type 0} (turn : Turn S) where
   turns-suc n a s ts = by_turn (turn a s ts)
     where
       by_turn : (r : Option (Read S))
-          → (elim r [ None ↦ ends a s ts | Some read ↦ and_then read (λ x. turns turn n x.tree x.scopes x.rest) ]) ≡ after r a s ts (turns turn n)
+          → (elim r [ None ↦ ends a s ts | Some read ↦ and_then read (λ x. turns turn n x.tree x.scopes x.rest) ])
+          ≡ after r a s ts (turns turn n)
       by_turn None = refl
       by_turn (Some read) = refl
 
   -- each turn takes a token
   abbrev pub TurnShrinks : Type 0
-  TurnShrinks = (a : S) (s : HeldScopes) (ts : List Lexeme) (x : Found S) → turn a s ts ≡ Some (done x) → length x.rest < length ts
+  TurnShrinks =
+      (a : S) (s : HeldScopes) (ts : List Lexeme) (x : Found S) → turn a s ts ≡ Some (done x)
+      → length x.rest < length ts
 
   turns-enough : TurnShrinks → (n m : ℕ) (a : S) (s : HeldScopes) (ts : List Lexeme) → length ts < n → length ts < m
       → turns turn n a s ts ≡ turns turn m a s ts
@@ -32,9 +35,11 @@ module _ {S : Type 0} (turn : Turn S) where
   turns-enough shrinks zero m a s ts p q = absurd (omega arith)
   turns-enough shrinks (suc n) zero a s ts p q = absurd (omega arith)
   turns-enough shrinks (suc n) (suc m) a s ts p q =
-      rw (turns-suc n a s ts, turns-suc m a s ts) (by_turn (λ a s ts. turns-enough shrinks n m a s ts) (turn a s ts) refl)
+      rw (turns-suc n a s ts, turns-suc m a s ts)
+      (by_turn (λ a s ts. turns-enough shrinks n m a s ts) (turn a s ts) refl)
     where
-      by_turn : ((a : S) (s : HeldScopes) (ts : List Lexeme) → length ts < n → length ts < m → turns turn n a s ts ≡ turns turn m a s ts) →
+      by_turn : ((a : S) (s : HeldScopes) (ts : List Lexeme) → length ts < n → length ts < m
+          → turns turn n a s ts ≡ turns turn m a s ts) →
           (r : Option (Read S)) → turn a s ts ≡ r → after r a s ts (turns turn n) ≡ after r a s ts (turns turn m)
       by_turn again None is = refl
       by_turn again (Some (Err f)) is = refl
@@ -57,7 +62,8 @@ module _ {S : Type 0} (turn : Turn S) where
 
   -- what each turn keeps holds at the end
   turns-keep : (P : S → HeldScopes → List Lexeme → Type 0) →
-      ((a : S) (s : HeldScopes) (ts : List Lexeme) (x : Found S) → P a s ts → turn a s ts ≡ Some (done x) → P x.tree x.scopes x.rest) →
+      ((a : S) (s : HeldScopes) (ts : List Lexeme) (x : Found S) → P a s ts → turn a s ts ≡ Some (done x)
+      → P x.tree x.scopes x.rest) →
       (n : ℕ) (a : S) (s : HeldScopes) (ts : List Lexeme) (y : Found S) → P a s ts → turns turn n a s ts ≡ done y
       → P y.tree y.scopes y.rest
   unfolding turns and_then
@@ -65,14 +71,16 @@ module _ {S : Type 0} (turn : Turn S) where
   turns-keep P keeps (suc n) a s ts y p e =
       by_turn (λ a s ts. turns-keep P keeps n a s ts y) (turn a s ts) refl (sym (turns-suc n a s ts) ∙ e)
     where
-      by_turn : ((a : S) (s : HeldScopes) (ts : List Lexeme) → P a s ts → turns turn n a s ts ≡ done y → P y.tree y.scopes y.rest) →
+      by_turn : ((a : S) (s : HeldScopes) (ts : List Lexeme) → P a s ts → turns turn n a s ts ≡ done y
+          → P y.tree y.scopes y.rest) →
           (r : Option (Read S)) → turn a s ts ≡ r → after r a s ts (turns turn n) ≡ done y → P y.tree y.scopes y.rest
       by_turn again None is e = subst (λ (z : Found S). P z.tree z.scopes z.rest) (ok_is e) p
       by_turn again (Some (Err f)) is e = absurd cc
       by_turn again (Some (Ok x)) is e = again x.tree x.scopes x.rest (keeps a s ts x p is) e
 
   pub run-keep : (P : S → HeldScopes → List Lexeme → Type 0) →
-      ((a : S) (s : HeldScopes) (ts : List Lexeme) (x : Found S) → P a s ts → turn a s ts ≡ Some (done x) → P x.tree x.scopes x.rest) →
+      ((a : S) (s : HeldScopes) (ts : List Lexeme) (x : Found S) → P a s ts → turn a s ts ≡ Some (done x)
+      → P x.tree x.scopes x.rest) →
       (a : S) (s : HeldScopes) (ts : List Lexeme) (y : Found S) → P a s ts → run turn a s ts ≡ done y
       → P y.tree y.scopes y.rest
   unfolding run
@@ -86,7 +94,8 @@ module _ {S : Type 0} (turn : Turn S) where
   turns-stop shrinks (suc n) a s ts y lower e =
       by_turn (λ a s ts. turns-stop shrinks n a s ts y) (turn a s ts) refl (sym (turns-suc n a s ts) ∙ e)
     where
-      by_turn : ((a : S) (s : HeldScopes) (ts : List Lexeme) → length ts < n → turns turn n a s ts ≡ done y → turn y.tree y.scopes y.rest ≡ None) →
+      by_turn : ((a : S) (s : HeldScopes) (ts : List Lexeme) → length ts < n → turns turn n a s ts ≡ done y
+          → turn y.tree y.scopes y.rest ≡ None) →
           (r : Option (Read S)) → turn a s ts ≡ r → after r a s ts (turns turn n) ≡ done y
           → turn y.tree y.scopes y.rest ≡ None
       by_turn again None is e = subst (λ (z : Found S). turn z.tree z.scopes z.rest ≡ None) (ok_is e) is

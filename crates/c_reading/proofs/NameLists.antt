@@ -34,7 +34,8 @@ module _ (scopes : Identifier → HeldScopes → Option HeldScopes) where
   names_low (x ∷ xs) = let rest : row_height (name_form scopes) xs ≤ 0 = names_low xs in omega (arith, rest)
 
   -- what was read: one name at least
-  pub record TookNames (all : List Lexeme) (s : HeldScopes) (ts : List Lexeme) (x : Found (List Identifier)) : Type 0 where
+  pub record TookNames (all : List Lexeme) (s : HeldScopes) (ts : List Lexeme)
+      (x : Found (List Identifier)) : Type 0 where
     pub spelled : ts ≡ names_text x.tree x.rest
     pub some : x.tree ≢ []
     pub named : row_scopes (name_form scopes) x.tree s ≡ Some x.scopes
@@ -50,7 +51,11 @@ module _ (scopes : Identifier → HeldScopes → Option HeldScopes) where
     unfolding names_list
     names_list_shrinks s ts x e =
         let a = bind_ok e in
-        omega (arith, listed_shrinks name (next_name name) next_falls shrinks s ts a.0 a.1, ap (λ (x : Found (List Identifier)). length x.rest) (ok_is a.2))
+        omega (
+          arith,
+          listed_shrinks name (next_name name) next_falls shrinks s ts a.0 a.1,
+          ap (λ (x : Found (List Identifier)). length x.rest) (ok_is a.2),
+        )
 
     module _ (all : List Lexeme) (numbered : IsNumbered all) (sound : IsSound all (name_form scopes) 0 name) where
       next_sound : (comma : ℕ) (s : HeldScopes) (ts : List Lexeme) (x : Found (Next Identifier ⊥)) → IsTail all ts
@@ -58,14 +63,16 @@ module _ (scopes : Identifier → HeldScopes → Option HeldScopes) where
           NextTakes all (name_form scopes) no_ending 0 comma s ts x.tree x.scopes x.rest
       next_sound comma s ts x tail e =
           let a = bind_ok e in
-          at_end (λ (x : Found (Next Identifier ⊥)). NextTakes all (name_form scopes) no_ending 0 comma s ts x.tree x.scopes x.rest) a.2 (sound s ts a.0 tail a.1, shrinks s ts a.0 a.1)
+          at_end (λ (x : Found (Next Identifier ⊥)). NextTakes all (name_form scopes) no_ending 0 comma s ts x.tree
+          x.scopes x.rest) a.2 (sound s ts a.0 tail a.1, shrinks s ts a.0 a.1)
 
       pub names_sound : (s : HeldScopes) (ts : List Lexeme) (x : Found (List Identifier)) → IsTail all ts
           → names_list name s ts ≡ done x → TookNames all s ts x
       unfolding names_list
       names_sound s ts x tail e =
           let a = bind_ok e in
-          let l = listed_sound name (next_name name) all numbered (name_form scopes) no_ending 0 sound next_sound s ts a.0 tail a.1 in
+          let l = listed_sound name (next_name name) all numbered
+          (name_form scopes) no_ending 0 sound next_sound s ts a.0 tail a.1 in
           at_end (TookNames all s ts) a.2 (of_list a.0 l)
         where
           has_some : (xs : List Identifier) → HasItem (name_form scopes) no_ending xs → xs ≢ []
@@ -74,23 +81,32 @@ module _ (scopes : Identifier → HeldScopes → Option HeldScopes) where
 
           of_list : (l : Found (CommaList Identifier ⊥)) → Takes all (list_form (name_form scopes) no_ending) 0 s ts l
               → TookNames all s ts (found l.tree.items l.scopes l.rest)
-          of_list l t = record { spelled = by_ending l.tree.ending t.spelled; some = has_some l.tree.items t.fits.0; named = t.named; left = t.left }
+          of_list l t = record {
+            spelled = by_ending l.tree.ending t.spelled;
+            some = has_some l.tree.items t.fits.0;
+            named = t.named;
+            left = t.left;
+          }
             where
               by_ending : (o : Option ⊥)
-                  → ts ≡ (list_form (name_form scopes) no_ending).text (record { items = l.tree.items; ending = o }) l.rest
+                  → ts ≡ (list_form (name_form scopes) no_ending).text
+                  (record { items = l.tree.items; ending = o }) l.rest
                   → ts ≡ names_text l.tree.items l.rest
               by_ending None is = is ∙ names_are l.tree.items l.rest
               by_ending (Some e) is = absurd e
 
-    module _ (complete : (x : Identifier) (s t : HeldScopes) (k : List Lexeme) → scopes x s ≡ Some t → name s (identifier_text x k) ≡ done (found x t k)) where
+    module _ (complete : (x : Identifier) (s t : HeldScopes) (k : List Lexeme) → scopes x s ≡ Some t
+        → name s (identifier_text x k) ≡ done (found x t k)) where
       pub names_complete : (xs : List Identifier) (s t : HeldScopes) (k : List Lexeme) → xs ≢ []
           → row_scopes (name_form scopes) xs s ≡ Some t → is_comma (kind_at k) ≡ false →
           names_list name s (names_text xs k) ≡ done (found xs t k)
       unfolding names_list
       names_complete xs s t k some named no_comma =
-          let l = listed_complete name (next_name name) (name_form scopes) no_ending always 0 next_falls (λ x s t k fits n low ended. complete x s t k n)
+          let l = listed_complete name (next_name name) (name_form scopes) no_ending always 0 next_falls
+          (λ x s t k fits n low ended. complete x s t k n)
           (λ comma x s t k fits n low ended. bind_is _ (complete x s t k n) refl) (λ x. refl)
-          (record { items = xs; ending = None }) s t k (has_item xs some) (names_fit xs) named (names_low xs) (no_comma, λ x. refl) in
+          (record { items = xs; ending = None }) s t k (has_item xs some) (names_fit xs) named (names_low xs)
+          (no_comma, λ x. refl) in
           bind_is _ (ap (λ (ts : List Lexeme). listed name (next_name name) s ts) (sym (names_are xs k)) ∙ l) refl
         where
           has_item : (xs : List Identifier) → xs ≢ [] → HasItem (name_form scopes) no_ending xs

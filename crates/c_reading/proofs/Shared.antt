@@ -51,10 +51,15 @@ no_base wanted plain (base_name token) s t e = by_wide (is_wide s) (is_typedef w
     by_wide false b plain e = absurd cc
     by_wide true false plain e = absurd cc
     by_wide true true plain e = absurd cc
-no_base wanted plain (array d opening words size closing) s t e = let b = behind_ok (declr_scopes wanted d s) (some_size_scopes size) t e in no_base wanted plain d s b.0 b.1
-no_base wanted plain (params d opening ps dots closing) s t e = let b = behind_ok (declr_scopes wanted d s) (in_own_scope (params_scopes ps)) t e in no_base wanted plain d s b.0 b.1
+no_base wanted plain (array d opening words size closing) s t e =
+    let b = behind_ok (declr_scopes wanted d s) (some_size_scopes size) t e in
+    no_base wanted plain d s b.0 b.1
+no_base wanted plain (params d opening ps dots closing) s t e =
+    let b = behind_ok (declr_scopes wanted d s) (in_own_scope (params_scopes ps)) t e in
+    no_base wanted plain d s b.0 b.1
 no_base wanted plain (identifiers d opening names closing) s t e =
-    let b = behind_ok (declr_scopes wanted d s) (λ t. behind (where_true (is_wide t) t) (identifiers_scopes names)) t e in
+    let b =
+    behind_ok (declr_scopes wanted d s) (λ t. behind (where_true (is_wide t) t) (identifiers_scopes names)) t e in
     no_base wanted plain d s b.0 b.1
 no_base wanted plain (declr_name token name) s t e = refl
 no_base wanted plain (declr_paren opening attrs d closing) s t e = refl
@@ -68,14 +73,25 @@ no_base wanted plain (abs_params d opening ps dots closing) s t e = refl
 pub present_ok : (d : SomeDeclr) (s : HeldScopes) (ts : List Lexeme) (x : Found Declr) → present d s ts ≡ done x
     → (d ≡ some_declr x.tree) × (found x.tree s ts ≡ x)
 present_ok no_declr s ts x e = absurd cc
-present_ok (some_declr d) s ts x e = at_end (λ x. (some_declr d ≡ some_declr x.tree) × (found x.tree s ts ≡ x)) e (refl, refl)
+present_ok (some_declr d) s ts x e =
+    at_end (λ x. (some_declr d ≡ some_declr x.tree) × (found x.tree s ts ≡ x)) e (refl, refl)
 
 module _ (all : List Lexeme) where
   abbrev pub specs_form : Role → Form SpecWords
-  specs_form role = record { text = spec_words_text all; Fits = λ ws. IsMix ws × FitsRole all role ws; scopes = spec_words_scopes; height = λ ws. specs_height ws + 1 }
+  specs_form role = record {
+    text = spec_words_text all;
+    Fits = λ ws. IsMix ws × FitsRole all role ws;
+    scopes = spec_words_scopes;
+    height = λ ws. specs_height ws + 1;
+  }
 
   abbrev pub named_form : Option Kind → Form Declr
-  named_form wanted = record { text = declr_text all; Fits = λ d. IsDeclr all d × (is_named d ≡ true) × (lists_identifiers d ≡ false); scopes = declr_scopes wanted; height = declr_height }
+  named_form wanted = record {
+    text = declr_text all;
+    Fits = λ d. IsDeclr all d × (is_named d ≡ true) × (lists_identifiers d ≡ false);
+    scopes = declr_scopes wanted;
+    height = declr_height;
+  }
 
   specs_high : (ws : SpecWords) → 1 ≤ specs_height ws
   specs_high no_words = omega arith
@@ -85,7 +101,8 @@ module _ (all : List Lexeme) where
     pub specs_here_shrinks : (role : Role) (room : ℕ) → Shrinks (specs_here inner role room)
     unfolding specs_here
     specs_here_shrinks role room s ts x e =
-        if_ok (begins_role role s (kind_at ts)) e (λ is e. laws.words.shrinks role (room - 1) s ts x (fits_ok _ _ _ e).1) (λ is e. absurd cc)
+        if_ok (begins_role role s (kind_at ts)) e
+        (λ is e. laws.words.shrinks role (room - 1) s ts x (fits_ok _ _ _ e).1) (λ is e. absurd cc)
 
     -- before a base word stand words that it does not continue
     pub specs_here_stops : (role : Role) (room : ℕ) (s : HeldScopes) (ts : List Lexeme) (x : Found SpecWords)
@@ -93,7 +110,8 @@ module _ (all : List Lexeme) where
         is_base_word (kind_at x.rest) ≡ true → goes_on x.tree (classes.Spells keywords.BaseWord) ≡ false
     unfolding specs_here
     specs_here_stops role room s ts x tail e base =
-        if_ok (begins_role role s (kind_at ts)) e (λ is e. (laws.words.sound role no_words (room - 1) s ts x tail (fits_ok _ _ _ e).1).stops base) (λ is e. absurd cc)
+        if_ok (begins_role role s (kind_at ts)) e (λ is e.
+        (laws.words.sound role no_words (room - 1) s ts x tail (fits_ok _ _ _ e).1).stops base) (λ is e. absurd cc)
 
     pub specs_here_sound : (role : Role) (room : ℕ) → IsSound all (specs_form role) room (specs_here inner role room)
     unfolding specs_here
@@ -125,17 +143,21 @@ module _ (all : List Lexeme) where
     -- before a token that does not go on with the words, a base word behind a `typedef` among them
     pub specs_here_ended : (firsts : FirstLaws all) (role : Role) (room : ℕ) → room ≤ n
         → (ws : SpecWords) (s s' : HeldScopes) (k : List Lexeme) → IsMix ws → FitsRole all role ws →
-        spec_words_scopes ws s ≡ Some s' → specs_height ws + 1 ≤ room → EndsWords s' ws (kind_at k) → specs_here inner role room s (spec_words_text all ws k) ≡ done (found ws s' k)
+        spec_words_scopes ws s ≡ Some s' → specs_height ws + 1 ≤ room → EndsWords s' ws (kind_at k)
+        → specs_here inner role room s (spec_words_text all ws k) ≡ done (found ws s' k)
     unfolding specs_here
     specs_here_ended firsts role room less ws s s' k mix fits named low ended =
         let high : 1 ≤ specs_height ws = specs_high ws in
         let begun = role_begins firsts role ws s s' k mix fits named in
-        rw (begun, firsts.words_stand role ws s s' k mix fits named) (fits_is 2 room (spec_words_text all ws k) _ (omega (arith, low, high)) ∙
-        laws.words.complete role no_words ws (room - 1) (omega (arith, low, high, less)) s s' k mix fits named (inr (omega (arith, low))) ended)
+        rw (begun, firsts.words_stand role ws s s' k mix fits named)
+        (fits_is 2 room (spec_words_text all ws k) _ (omega (arith, low, high)) ∙
+        laws.words.complete role no_words ws (room - 1) (omega (arith, low, high, less)) s s' k mix fits named
+        (inr (omega (arith, low))) ended)
 
     pub specs_here_complete : (firsts : FirstLaws all) (role : Role) (room : ℕ) → room ≤ n
         → IsComplete (specs_form role) (λ ws. ends_specs) room (specs_here inner role room)
-    specs_here_complete firsts role room less ws s s' k fits named low ended = specs_here_ended firsts role room less ws s s' k fits.0 fits.1 named low (inl ended)
+    specs_here_complete firsts role room less ws s s' k fits named low ended =
+        specs_here_ended firsts role room less ws s s' k fits.0 fits.1 named low (inl ended)
 
     pub named_declr_shrinks : (wanted : Option Kind) (room : ℕ) → Shrinks (named_declr inner wanted room)
     unfolding named_declr
@@ -150,7 +172,8 @@ module _ (all : List Lexeme) where
     unfolding named_declr
     named_declr_sound wanted room s ts x tail e =
         let a = bind_ok e in
-        takes a.0 (laws.declrs.sound Named wanted false room s ts a.0 tail a.1) (present_ok a.0.tree.declr a.0.scopes a.0.rest x a.2)
+        takes a.0 (laws.declrs.sound Named wanted false room s ts a.0 tail a.1)
+        (present_ok a.0.tree.declr a.0.scopes a.0.rest x a.2)
       where
         takes : (d : Found Declared) → TakesDeclr all Named wanted false room s ts d
             → (d.tree.declr ≡ some_declr x.tree) × (found x.tree d.scopes d.rest ≡ x)
@@ -171,7 +194,8 @@ module _ (all : List Lexeme) where
         → IsComplete (named_form wanted) (λ d. ends_suffix) room (named_declr inner wanted room)
     unfolding named_declr
     named_declr_complete wanted room less d s s' k fits named low ended =
-        bind_is _ (laws.declrs.complete Named wanted false room less tt (some_declr d) s s' k (fits.0, fits.1) (inr fits.2) named low (rw (named_ends all d fits.0 fits.1) ended)) refl
+        bind_is _ (laws.declrs.complete Named wanted false room less tt (some_declr d) s s' k (fits.0, fits.1)
+        (inr fits.2) named low (rw (named_ends all d fits.0 fits.1) ended)) refl
 
     pub init_shrinks : (room : ℕ) → Shrinks (init_with inner room)
     unfolding init_with
@@ -190,14 +214,17 @@ module _ (all : List Lexeme) where
         if_ok (is_open_brace (kind_at ts)) e
         (λ is e. let a = bind_ok e in
         let i = laws.lists.sound room s ts a.0 tail a.1 in
-        at_end (Takes all (init_form all) room s ts) a.2 (record { spelled = i.spelled; fits = i.fits; named = i.named; low = i.low; left = i.left }))
+        at_end (Takes all (init_form all) room s ts) a.2
+        (record { spelled = i.spelled; fits = i.fits; named = i.named; low = i.low; left = i.left }))
         (λ is e. let a = bind_ok e in
         let i = laws.exprs.sound Assigned room s ts a.0 tail a.1 in
-        at_end (Takes all (init_form all) room s ts) a.2 (record { spelled = i.spelled; fits = i.fits; named = i.named; low = i.low; left = i.left }))
+        at_end (Takes all (init_form all) room s ts) a.2
+        (record { spelled = i.spelled; fits = i.fits; named = i.named; low = i.low; left = i.left }))
 
     pub init_begins : (firsts : FirstLaws all) (i : Init) (s s' : HeldScopes) (k : List Lexeme) → IsInit all i
         → init_scopes i s ≡ Some s' → begins_init s (kind_at (init_text all i k)) ≡ true
-    init_begins firsts (init_value e) s s' k h named = by_brace (is_open_brace (kind_at (expr_text all e k))) (firsts.expr_begins e s s' k h.0 named)
+    init_begins firsts (init_value e) s s' k h named =
+        by_brace (is_open_brace (kind_at (expr_text all e k))) (firsts.expr_begins e s s' k h.0 named)
       where
         by_brace : (b : Bool) → begins_expr s (kind_at (expr_text all e k)) ≡ true
             → (b || begins_expr s (kind_at (expr_text all e k))) ≡ true
@@ -210,6 +237,7 @@ module _ (all : List Lexeme) where
     unfolding init_with
     init_complete firsts room less (init_value e) s s' k fits named low ended =
         let begun = firsts.expr_begins e s s' k fits.0 named in
-        rw (expr_no_open_brace s (kind_at (expr_text all e k)) begun) (bind_is _ (laws.exprs.complete Assigned room less e s s' k fits named low ended) refl)
+        rw (expr_no_open_brace s (kind_at (expr_text all e k)) begun)
+        (bind_is _ (laws.exprs.complete Assigned room less e s s' k fits named low ended) refl)
     init_complete firsts room less (init_braced (init_list opening items last closing)) s s' k fits named low ended =
         bind_is _ (laws.lists.complete room less (init_list opening items last closing) s s' k fits named low refl) refl

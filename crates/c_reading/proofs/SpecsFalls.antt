@@ -48,7 +48,8 @@ module _ (all : List Lexeme) (tokens : TokenLaws all) (n : ℕ) (inner : Inner) 
       let a = bind_ok r.1 in
       let b = bind_ok a.2 in
       let c = bind_ok b.2 in
-      omega (arith, take_falls _ _ _ a.1, laws.exprs.shrinks _ _ _ _ _ _ b.1, tokens.attrs_falls room _ _ _ c.1, end_is c.2)
+      omega
+      (arith, take_falls _ _ _ a.1, laws.exprs.shrinks _ _ _ _ _ _ b.1, tokens.attrs_falls room _ _ _ c.1, end_is c.2)
 
   field_shrinks : (room : ℕ) → Shrinks (field_with inner room)
   unfolding field_with
@@ -56,7 +57,13 @@ module _ (all : List Lexeme) (tokens : TokenLaws all) (n : ℕ) (inner : Inner) 
       let a = bind_ok e in
       let b = bind_ok a.2 in
       let c = bind_ok b.2 in
-      omega (arith, named_declr_shrinks all n inner laws None (room - 1) _ _ _ a.1, value_falls is_colon room _ _ _ b.1, tokens.attrs_falls room _ _ _ c.1, end_is c.2)
+      omega (
+        arith,
+        named_declr_shrinks all n inner laws None (room - 1) _ _ _ a.1,
+        value_falls is_colon room _ _ _ b.1,
+        tokens.attrs_falls room _ _ _ c.1,
+        end_is c.2,
+      )
 
   pub mem_declr_shrinks : (room : ℕ) → Shrinks (mem_declr_with inner room)
   unfolding mem_declr_with
@@ -85,7 +92,12 @@ module _ (all : List Lexeme) (tokens : TokenLaws all) (n : ℕ) (inner : Inner) 
       if_ok (is_semicolon (kind_at ts)) e
       (λ is e. omega (arith, end_is e))
       (λ is e. let a = bind_ok e in
-      omega (arith, listed_shrinks (first_member inner room) (next_member inner room) (next_member_falls room) (first_member_shrinks room) _ _ _ a.1, end_is a.2))
+      omega (
+        arith,
+        listed_shrinks (first_member inner room) (next_member inner room) (next_member_falls room)
+            (first_member_shrinks room) _ _ _ a.1,
+        end_is a.2,
+      ))
 
   member_shrinks : (room : ℕ) → Shrinks (member_with inner room)
   unfolding member_with
@@ -94,7 +106,14 @@ module _ (all : List Lexeme) (tokens : TokenLaws all) (n : ℕ) (inner : Inner) 
       let b = bind_ok a.2 in
       let c = bind_ok b.2 in
       let d = bind_ok c.2 in
-      omega (arith, tokens.exts_falls room _ _ _ a.1, specs_here_shrinks all n inner laws Typed room _ _ _ b.1, mem_declrs_falls (room - 1) _ _ _ c.1, token_falls is_semicolon _ _ _ d.1, end_is d.2)
+      omega (
+        arith,
+        tokens.exts_falls room _ _ _ a.1,
+        specs_here_shrinks all n inner laws Typed room _ _ _ b.1,
+        mem_declrs_falls (room - 1) _ _ _ c.1,
+        token_falls is_semicolon _ _ _ d.1,
+        end_is d.2,
+      )
 
   pub struct_item_shrinks : (room : ℕ) → Shrinks (struct_item_with inner room)
   unfolding struct_item_with
@@ -115,7 +134,14 @@ module _ (all : List Lexeme) (tokens : TokenLaws all) (n : ℕ) (inner : Inner) 
       let a = bind_ok e in
       let b = bind_ok a.2 in
       let c = bind_ok b.2 in
-      omega (arith, take_falls _ _ _ a.1, repeated_falls (λ kind. not (is_close_brace kind)) (struct_item_with inner (room - 1)) (struct_item_shrinks (room - 1)) _ _ _ b.1, token_falls is_close_brace _ _ _ c.1, end_is c.2)
+      omega (
+        arith,
+        take_falls _ _ _ a.1,
+        repeated_falls (λ kind. not (is_close_brace kind)) (struct_item_with inner (room - 1))
+            (struct_item_shrinks (room - 1)) _ _ _ b.1,
+        token_falls is_close_brace _ _ _ c.1,
+        end_is c.2,
+      )
 
   without_falls : {A : Type 0} (tag : Option Identifier) (a : A) → Falls (without_body tag a)
   without_falls None a s ts x e = absurd cc
@@ -124,7 +150,8 @@ module _ (all : List Lexeme) (tokens : TokenLaws all) (n : ℕ) (inner : Inner) 
   pub body_falls : (tag : Option Identifier) (room : ℕ) → Falls (body_with inner tag room)
   unfolding body_with
   body_falls tag room s ts x e =
-      if_ok (is_open_brace (kind_at ts)) e (λ is e. omega (arith, members_shrinks room s ts x e)) (λ is e. without_falls tag _ s ts x e)
+      if_ok (is_open_brace (kind_at ts)) e (λ is e. omega (arith, members_shrinks room s ts x e))
+      (λ is e. without_falls tag _ s ts x e)
 
   struct_shrinks : (keyword : Keyword) (room : ℕ) → Shrinks (struct_with inner keyword room)
   unfolding struct_with
@@ -133,7 +160,14 @@ module _ (all : List Lexeme) (tokens : TokenLaws all) (n : ℕ) (inner : Inner) 
       let b = bind_ok a.2 in
       let c = bind_ok b.2 in
       let d = bind_ok c.2 in
-      omega (arith, take_falls _ _ _ a.1, tokens.attrs_falls room _ _ _ b.1, tag_falls _ _ _ c.1, body_falls c.0.tree room _ _ _ d.1, end_is d.2)
+      omega (
+        arith,
+        take_falls _ _ _ a.1,
+        tokens.attrs_falls room _ _ _ b.1,
+        tag_falls _ _ _ c.1,
+        body_falls c.0.tree room _ _ _ d.1,
+        end_is d.2,
+      )
 
   declared_falls : {A : Type 0} (a : A) (o : Option HeldScopes) (ts : List Lexeme) (x : Found A)
       → declared a o ts ≡ done x → length x.rest ≡ length ts
@@ -145,7 +179,12 @@ module _ (all : List Lexeme) (tokens : TokenLaws all) (n : ℕ) (inner : Inner) 
   enumerator_behind_falls name room s ts x e =
       let a = bind_ok e in
       let b = bind_ok a.2 in
-      omega (arith, tokens.attrs_falls room _ _ _ a.1, value_falls is_equal room _ _ _ b.1, declared_falls _ (declare name.name Constant b.0.scopes) b.0.rest x b.2)
+      omega (
+        arith,
+        tokens.attrs_falls room _ _ _ a.1,
+        value_falls is_equal room _ _ _ b.1,
+        declared_falls _ (declare name.name Constant b.0.scopes) b.0.rest x b.2,
+      )
 
   enumerator_named_falls : (name : Identifier) (room : ℕ) (at : List Lexeme)
       → Falls (enumerator_named inner name room at)
@@ -176,12 +215,20 @@ module _ (all : List Lexeme) (tokens : TokenLaws all) (n : ℕ) (inner : Inner) 
       let a = bind_ok r.1 in
       let b = bind_ok a.2 in
       let c = bind_ok b.2 in
-      omega (arith, take_falls _ _ _ a.1, listed_shrinks (enumerator_with inner (room - 1)) (next_enumerator inner (room - 1)) (next_enumerator_falls (room - 1)) (enumerator_shrinks (room - 1)) _ _ _ b.1, token_falls is_close_brace _ _ _ c.1, end_is c.2)
+      omega (
+        arith,
+        take_falls _ _ _ a.1,
+        listed_shrinks (enumerator_with inner (room - 1)) (next_enumerator inner (room - 1))
+            (next_enumerator_falls (room - 1)) (enumerator_shrinks (room - 1)) _ _ _ b.1,
+        token_falls is_close_brace _ _ _ c.1,
+        end_is c.2,
+      )
 
   pub enum_body_falls : (tag : Option Identifier) (room : ℕ) → Falls (enum_body_with inner tag room)
   unfolding enum_body_with
   enum_body_falls tag room s ts x e =
-      if_ok (is_open_brace (kind_at ts)) e (λ is e. omega (arith, enumerators_shrinks room s ts x e)) (λ is e. without_falls tag _ s ts x e)
+      if_ok (is_open_brace (kind_at ts)) e (λ is e. omega (arith, enumerators_shrinks room s ts x e))
+      (λ is e. without_falls tag _ s ts x e)
 
   enum_shrinks : (room : ℕ) → Shrinks (enum_with inner room)
   unfolding enum_with
@@ -190,7 +237,14 @@ module _ (all : List Lexeme) (tokens : TokenLaws all) (n : ℕ) (inner : Inner) 
       let b = bind_ok a.2 in
       let c = bind_ok b.2 in
       let d = bind_ok c.2 in
-      omega (arith, take_falls _ _ _ a.1, tokens.attrs_falls room _ _ _ b.1, tag_falls _ _ _ c.1, enum_body_falls c.0.tree room _ _ _ d.1, end_is d.2)
+      omega (
+        arith,
+        take_falls _ _ _ a.1,
+        tokens.attrs_falls room _ _ _ b.1,
+        tag_falls _ _ _ c.1,
+        enum_body_falls c.0.tree room _ _ _ d.1,
+        end_is d.2,
+      )
 
   typed_word_shrinks : (keyword : Keyword) (token opening room : ℕ)
       → Shrinks (typed_word_with inner keyword token opening room)
@@ -239,18 +293,24 @@ module _ (all : List Lexeme) (tokens : TokenLaws all) (n : ℕ) (inner : Inner) 
   word_by_shrinks (starts.Basic keyword) room s ts x e = one_shrinks _ s ts x e
   word_by_shrinks (starts.Struct keyword) room s ts x e = struct_shrinks keyword (room - 1) s ts x e
   word_by_shrinks starts.Enum room s ts x e = enum_shrinks (room - 1) s ts x e
-  word_by_shrinks starts.Attribute room s ts x e = let a = bind_ok e in omega (arith, tokens.attr_shrinks _ _ _ a.1, end_is a.2)
+  word_by_shrinks starts.Attribute room s ts x e =
+      let a = bind_ok e in
+      omega (arith, tokens.attr_shrinks _ _ _ a.1, end_is a.2)
   word_by_shrinks (starts.Name name) room s ts x e = one_shrinks _ s ts x e
   word_by_shrinks starts.Typeof room s ts x e = typeof_shrinks (room - 1) s ts x e
   word_by_shrinks starts.Atomic room s ts x e = atomic_shrinks (room - 1) s ts x e
-  word_by_shrinks starts.Align room s ts x e = let a = bind_ok e in omega (arith, tokens.align_shrinks _ _ _ a.1, end_is a.2)
+  word_by_shrinks starts.Align room s ts x e =
+      let a = bind_ok e in
+      omega (arith, tokens.align_shrinks _ _ _ a.1, end_is a.2)
   word_by_shrinks starts.Auto room s ts x e = one_shrinks _ s ts x e
   word_by_shrinks starts.Nothing room s ts x e = absurd cc
 
   -- what a word that was read may be
-  pub word_parts : (role : Role) (words : SpecWords) (start : SpecStart) (room : ℕ) (s : HeldScopes) (ts : List Lexeme) (x : Found SpecWord)
+  pub word_parts : (role : Role) (words : SpecWords) (start : SpecStart) (room : ℕ) (s : HeldScopes) (ts : List Lexeme)
+      (x : Found SpecWord)
       → word_with inner role words start room s ts ≡ done x →
-      (may_stand role start ≡ true) × (goes_on words (class_of_start start) ≡ true) × (max (least_of start) (specs_height words) ≤ room) × (word_by inner start room s ts ≡ done x)
+      (may_stand role start ≡ true) × (goes_on words (class_of_start start) ≡ true)
+      × (max (least_of start) (specs_height words) ≤ room) × (word_by inner start room s ts ≡ done x)
   unfolding word_with
   word_parts role words start room s ts x e =
       if_ok (may_stand role start) e
@@ -260,41 +320,52 @@ module _ (all : List Lexeme) (tokens : TokenLaws all) (n : ℕ) (inner : Inner) 
       (λ may e. absurd cc)
 
   -- what a turn read
-  pub turn_parts : (role : Role) (room : ℕ) (words : SpecWords) (s : HeldScopes) (ts : List Lexeme) (x : Found SpecWords)
+  pub turn_parts : (role : Role) (room : ℕ) (words : SpecWords) (s : HeldScopes) (ts : List Lexeme)
+      (x : Found SpecWords)
       → word_turn inner role room words s ts ≡ Some (done x) →
-      (is_start (start_at s (is_typed words) (kind_at ts)) ≡ true) × (y : Found SpecWord) × (word_with inner role words (start_at s (is_typed words) (kind_at ts)) room s ts ≡ done y) × (found (pushed words y.tree) y.scopes y.rest ≡ x)
+      (is_start (start_at s (is_typed words) (kind_at ts)) ≡ true) × (y : Found SpecWord)
+      × (word_with inner role words (start_at s (is_typed words) (kind_at ts)) room s ts ≡ done y)
+      × (found (pushed words y.tree) y.scopes y.rest ≡ x)
   turn_parts role room words s ts x e = by_start (start_at s (is_typed words) (kind_at ts)) e
     where
       by_test : (start : SpecStart) (b : Bool) → is_start start ≡ b
-          → (if b then Some (and_then (word_with inner role words start room s ts) (λ word. ends (pushed words word.tree) word.scopes word.rest)) else None) ≡ Some (done x) →
-          (is_start start ≡ true) × (y : Found SpecWord) × (word_with inner role words start room s ts ≡ done y) × (found (pushed words y.tree) y.scopes y.rest ≡ x)
+          → (if b then Some (and_then (word_with inner role words start room s ts)
+          (λ word. ends (pushed words word.tree) word.scopes word.rest)) else None) ≡ Some (done x) →
+          (is_start start ≡ true) × (y : Found SpecWord) × (word_with inner role words start room s ts ≡ done y)
+          × (found (pushed words y.tree) y.scopes y.rest ≡ x)
       by_test start false is e = absurd cc
       by_test start true is e =
-          let e' : and_then (word_with inner role words start room s ts) (λ word. ends (pushed words word.tree) word.scopes word.rest) ≡ done x = cc in
+          let e' : and_then (word_with inner role words start room s ts)
+          (λ word. ends (pushed words word.tree) word.scopes word.rest) ≡ done x = cc in
           let b = bind_ok e' in
           (is, b.0, b.1, ok_is b.2)
 
       by_end : (start : SpecStart) (b : Bool) →
-          (if b then None else (if is_start start then Some (and_then (word_with inner role words start room s ts) (λ word. ends (pushed words word.tree) word.scopes word.rest)) else None)) ≡ Some (done x) →
-          (is_start start ≡ true) × (y : Found SpecWord) × (word_with inner role words start room s ts ≡ done y) × (found (pushed words y.tree) y.scopes y.rest ≡ x)
+          (if b then None else (if is_start start then Some (and_then (word_with inner role words start room s ts)
+          (λ word. ends (pushed words word.tree) word.scopes word.rest)) else None)) ≡ Some (done x) →
+          (is_start start ≡ true) × (y : Found SpecWord) × (word_with inner role words start room s ts ≡ done y)
+          × (found (pushed words y.tree) y.scopes y.rest ≡ x)
       by_end start true e = absurd cc
       by_end start false e = by_test start (is_start start) refl e
 
       by_start : (start : SpecStart) → word_turn_by inner role room start words s ts ≡ Some (done x) →
-          (is_start start ≡ true) × (y : Found SpecWord) × (word_with inner role words start room s ts ≡ done y) × (found (pushed words y.tree) y.scopes y.rest ≡ x)
+          (is_start start ≡ true) × (y : Found SpecWord) × (word_with inner role words start room s ts ≡ done y)
+          × (found (pushed words y.tree) y.scopes y.rest ≡ x)
       by_start start e = by_end start (ends_before s words start) e
 
   pub word_turn_shrinks : (role : Role) (room : ℕ) → TurnShrinks (word_turn inner role room)
   word_turn_shrinks role room words s ts x e =
       let p = turn_parts role room words s ts x e in
       let w = word_parts role words (start_at s (is_typed words) (kind_at ts)) room s ts p.1 p.2 in
-      let less : length p.1.rest < length ts = word_by_shrinks (start_at s (is_typed words) (kind_at ts)) room s ts p.1 w.3 in
+      let less : length p.1.rest < length ts =
+      word_by_shrinks (start_at s (is_typed words) (kind_at ts)) room s ts p.1 w.3 in
       subst (λ (x : Found SpecWords). length x.rest < length ts) p.3 less
 
   words_fall : (role : Role) (room : ℕ) (words : SpecWords) → Falls (λ s ts. run (word_turn inner role room) words s ts)
   words_fall role room words s ts x e =
       run-keep (word_turn inner role room) (λ words s k. length k ≤ length ts)
-      (λ words s k x h e. let less : length x.rest < length k = word_turn_shrinks role room words s k x e in omega arith) words s ts x (omega arith) e
+      (λ words s k x h e. let less : length x.rest < length k = word_turn_shrinks role room words s k x e in
+      omega arith) words s ts x (omega arith) e
 
   -- the words are whole
   pub whole_ok : (words : SpecWords) (s : HeldScopes) (ts : List Lexeme) (x : Found SpecWords)
@@ -316,13 +387,15 @@ module _ (all : List Lexeme) (tokens : TokenLaws all) (n : ℕ) (inner : Inner) 
       let a = bind_ok e in
       let w = whole_ok a.0.tree a.0.scopes a.0.rest x a.2 in
       subst (λ (x : Found SpecWords). length x.rest < length ts) w.1
-      (by_turn (word_turn inner role room no_words s ts) refl (sym (run_is (word_turn inner role room) (word_turn_shrinks role room) no_words s ts) ∙ a.1) w.0)
+      (by_turn (word_turn inner role room no_words s ts) refl
+      (sym (run_is (word_turn inner role room) (word_turn_shrinks role room) no_words s ts) ∙ a.1) w.0)
     where
       by_turn : {y : Found SpecWords} → (r : Option (Read SpecWords)) → word_turn inner role room no_words s ts ≡ r
           → after r no_words s ts (run (word_turn inner role room)) ≡ done y →
           is_whole_mix y.tree ≡ true → length y.rest < length ts
       by_turn {y} None is e w =
-          let none : is_whole_mix no_words ≡ true = subst (λ (y : Found SpecWords). is_whole_mix y.tree ≡ true) (sym (ok_is e)) w in
+          let none : is_whole_mix no_words ≡ true =
+          subst (λ (y : Found SpecWords). is_whole_mix y.tree ≡ true) (sym (ok_is e)) w in
           absurd cc
       by_turn {y} (Some (Err f)) is e w = let b = bind_ok e in let wrong : Err f ≡ done b.0 = b.1 in absurd cc
       by_turn {y} (Some (Ok z)) is e w =

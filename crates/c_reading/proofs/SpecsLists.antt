@@ -81,12 +81,15 @@ module _ (all : List Lexeme) where
   other_declrs_are : (xs : List MemberItem) (k : List Lexeme)
       → others_text (member_form all) member_ending xs k ≡ other_mem_declrs_text all (mem_declrs_from xs) k
   other_declrs_are [] k = refl
-  other_declrs_are (x ∷ xs) k = ap (λ (k : List Lexeme). separated (attrs_text all x.attrs (mem_declr_text all x.declr k))) (other_declrs_are xs k)
+  other_declrs_are (x ∷ xs) k =
+      ap (λ (k : List Lexeme). separated (attrs_text all x.attrs (mem_declr_text all x.declr k)))
+      (other_declrs_are xs k)
 
   pub declrs_are : (xs : List MemberItem) (k : List Lexeme)
       → commas_text (member_form all) member_ending xs k ≡ mem_declrs_text all (mem_declrs_from xs) k
   declrs_are [] k = refl
-  declrs_are (x ∷ xs) k = ap (λ (k : List Lexeme). attrs_text all x.attrs (mem_declr_text all x.declr k)) (other_declrs_are xs k)
+  declrs_are (x ∷ xs) k =
+      ap (λ (k : List Lexeme). attrs_text all x.attrs (mem_declr_text all x.declr k)) (other_declrs_are xs k)
 
   pub declrs_fit : (xs : List MemberItem) → AllFit (member_form all) xs → AreMemDeclrs all (mem_declrs_from xs)
   declrs_fit [] h = tt
@@ -104,7 +107,8 @@ module _ (all : List Lexeme) where
   pub declrs_high : (xs : List MemberItem) → row_height (member_form all) xs ≡ mem_declrs_height (mem_declrs_from xs)
   declrs_high [] = refl
   declrs_high (x ∷ xs) =
-      three (attrs_height x.attrs) (mem_declr_height x.declr) (row_height (member_form all) xs) ∙ ap (λ (h : ℕ). max (attrs_height x.attrs) (max (mem_declr_height x.declr) h)) (declrs_high xs)
+      three (attrs_height x.attrs) (mem_declr_height x.declr) (row_height (member_form all) xs)
+      ∙ ap (λ (h : ℕ). max (attrs_height x.attrs) (max (mem_declr_height x.declr) h)) (declrs_high xs)
     where
       three : (a b c : ℕ) → max (max a b) c ≡ max a (max b c)
       three a b c = omega arith
@@ -113,12 +117,16 @@ module _ (all : List Lexeme) where
   other_enumerators_are : (xs : List EnumItem) (k : List Lexeme)
       → others_text (enumerator_form all) comma_ending xs k ≡ other_enumerators_text all (enumerators_from xs) k
   other_enumerators_are [] k = refl
-  other_enumerators_are (x ∷ xs) k = ap (λ (k : List Lexeme). separated (identifier_text x.name (attrs_text all x.attrs (some_value_text all puncts.Equal x.value k)))) (other_enumerators_are xs k)
+  other_enumerators_are (x ∷ xs) k =
+      ap (λ (k : List Lexeme). separated (identifier_text x.name
+      (attrs_text all x.attrs (some_value_text all puncts.Equal x.value k)))) (other_enumerators_are xs k)
 
   pub enumerators_are : (xs : List EnumItem) (k : List Lexeme)
       → commas_text (enumerator_form all) comma_ending xs k ≡ enumerators_text all (enumerators_from xs) k
   enumerators_are [] k = refl
-  enumerators_are (x ∷ xs) k = ap (λ (k : List Lexeme). identifier_text x.name (attrs_text all x.attrs (some_value_text all puncts.Equal x.value k))) (other_enumerators_are xs k)
+  enumerators_are (x ∷ xs) k =
+      ap (λ (k : List Lexeme). identifier_text x.name
+      (attrs_text all x.attrs (some_value_text all puncts.Equal x.value k))) (other_enumerators_are xs k)
 
   pub comma_ending_is : (o : Option ℕ) (k : List Lexeme)
       → ending_text (enumerator_form all) comma_ending o k ≡ some_sign_text puncts.Comma o k
@@ -148,9 +156,11 @@ module _ (all : List Lexeme) where
       → row_scopes (enumerator_form all) xs s ≡ enumerators_scopes (enumerators_from xs) s
   enumerators_named [] s = refl
   enumerators_named (x ∷ xs) s =
-      behind_behind (declare x.name.name Constant s) (λ t. behind (some_value_scopes x.value s) (declare x.name.name Constant)) (row_scopes (enumerator_form all) xs) ∙
+      behind_behind (declare x.name.name Constant s)
+      (λ t. behind (some_value_scopes x.value s) (declare x.name.name Constant)) (row_scopes (enumerator_form all) xs) ∙
       behind_same (declare x.name.name Constant s) _ _
-      (λ t. behind_same (behind (some_value_scopes x.value s) (declare x.name.name Constant)) _ _ (enumerators_named xs))
+      (λ t. behind_same (behind (some_value_scopes x.value s) (declare x.name.name Constant)) _ _
+      (enumerators_named xs))
 
   pub enumerators_high : (xs : List EnumItem)
       → row_height (enumerator_form all) xs ≡ enumerators_height (enumerators_from xs)

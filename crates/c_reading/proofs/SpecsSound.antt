@@ -45,7 +45,8 @@ IsStart s (starts.Storage keyword) kind = (kind ≡ kinds.Keyword keyword) × (i
 IsStart s starts.Thread kind = kind ≡ kinds.Keyword keywords.Thread
 IsStart s starts.Inline kind = kind ≡ kinds.Keyword keywords.Inline
 IsStart s starts.Noreturn kind = kind ≡ kinds.Keyword keywords.Noreturn
-IsStart s (starts.Word keyword) kind = (kind ≡ kinds.Keyword keyword) × (is_qual keyword ≡ true) × (not (is_type_former keyword) ≡ true)
+IsStart s (starts.Word keyword) kind =
+    (kind ≡ kinds.Keyword keyword) × (is_qual keyword ≡ true) × (not (is_type_former keyword) ≡ true)
 IsStart s starts.Element kind = IsElementKind kind
 IsStart s starts.Index kind = kind ≡ kinds.Index
 IsStart s (starts.Basic keyword) kind = kind ≡ kinds.Keyword keyword
@@ -59,6 +60,7 @@ IsStart s starts.Align kind = kind ≡ kinds.Keyword keywords.Alignas
 IsStart s starts.Auto kind = kind ≡ kinds.Keyword keywords.AutoType
 IsStart s starts.Nothing kind = Unit {0}
 
+-- the first token of a word is as the word that it is taken for says
 start_is : (s : HeldScopes) (typed : Bool) (kind : TokenKind) → IsStart s (start_at s typed kind) kind
 start_is s typed (kinds.Keyword keywords.Typedef) = (refl, refl)
 start_is s typed (kinds.Keyword keywords.Extern) = (refl, refl)
@@ -106,6 +108,7 @@ start_is s typed (kinds.Name name) = by_name (names_type s name) (not typed) ref
     by_name true true is = (refl, is)
 start_is s typed kind = tt
 
+-- the least height of specifiers, by the first token of a word, is at least 1
 least_one : (start : SpecStart) → 1 ≤ least_of start
 least_one (starts.Storage keyword) = omega arith
 least_one starts.Thread = omega arith
@@ -173,6 +176,7 @@ pub append_append : (a b c : SpecWords) → append_words (append_words a b) c �
 append_append no_words b c = refl
 append_append (more_words w ws) b c = ap (more_words w) (append_append ws b c)
 
+-- words and one more are no higher than the room where the words and the new one fit it
 pub pushed_height : (ws : SpecWords) (w : SpecWord) (room : ℕ) → specs_height ws ≤ room → spec_word_height w + 1 ≤ room
     → specs_height (pushed ws w) ≤ room
 pushed_height no_words w room h one = omega (arith, h, one)
@@ -180,9 +184,11 @@ pushed_height (more_words v ws) w room h one =
     let rest : specs_height (pushed ws w) ≤ room = pushed_height ws w room (omega (arith, h)) one in
     omega (arith, h, rest)
 
+-- words and one more give the scopes that the new one gives behind the words
 pushed_scopes : (ws : SpecWords) (w : SpecWord) (s t u : HeldScopes) → spec_words_scopes ws s ≡ Some t
     → spec_word_scopes w t ≡ Some u → spec_words_scopes (pushed ws w) s ≡ Some u
-pushed_scopes no_words w s t u h e = behind_is (spec_words_scopes no_words) (subst (λ (t : HeldScopes). spec_word_scopes w t ≡ Some u) (sym cc) e) refl
+pushed_scopes no_words w s t u h e =
+    behind_is (spec_words_scopes no_words) (subst (λ (t : HeldScopes). spec_word_scopes w t ≡ Some u) (sym cc) e) refl
 pushed_scopes (more_words v ws) w s t u h e =
     let b = behind_ok (spec_word_scopes v s) (spec_words_scopes ws) t h in
     behind_is (spec_words_scopes (pushed ws w)) b.1 (pushed_scopes ws w b.0 t u b.2 e)
@@ -223,12 +229,14 @@ module _ (all : List Lexeme) where
 
   module _ (numbered : IsNumbered all) (tokens : TokenLaws all) (n : ℕ) (inner : Inner) (laws : Laws all n inner) where
     -- a word that was read, which may stand in the name of a type where its beginning may
-    record WordTakes (start : SpecStart) (room : ℕ) (s : HeldScopes) (ts : List Lexeme) (x : Found SpecWord) : Type 0 where
+    record WordTakes (start : SpecStart) (room : ℕ) (s : HeldScopes) (ts : List Lexeme)
+        (x : Found SpecWord) : Type 0 where
       pub takes : Takes all (word_form all) (room - 1) s ts x
       pub of_type : is_declaring start ≡ false → IsTypeWord x.tree
       pub plain : is_auto_start start ≡ false → is_auto x.tree ≡ false
 
-    one_taken : (start : SpecStart) (make : ℕ → SpecWord) (kind : TokenKind) (room : ℕ) (s : HeldScopes) (ts : List Lexeme) (x : Found SpecWord)
+    one_taken : (start : SpecStart) (make : ℕ → SpecWord) (kind : TokenKind) (room : ℕ) (s : HeldScopes)
+        (ts : List Lexeme) (x : Found SpecWord)
         → IsTail all ts → kind_at ts ≡ kind →
         ((token : ℕ) (k : List Lexeme) → plain_text kind token k ≡ spec_word_text all (make token) k)
         → ((token : ℕ) → IsSpecWord all (make token)) → ((token : ℕ) → spec_word_scopes (make token) s ≡ Some s) →
@@ -240,7 +248,13 @@ module _ (all : List Lexeme) where
         let a = bind_ok e in
         let o = took all kind s ts a.0 tail is a.1 in
         at_end (WordTakes start room s ts) a.2 (record {
-          takes = record { spelled = o.spelled ∙ spells a.0.tree a.0.rest; fits = fits a.0.tree; named = named a.0.tree ∙ ap Some (sym o.same); low = low a.0.tree; left = o.left };
+          takes = record {
+            spelled = o.spelled ∙ spells a.0.tree a.0.rest;
+            fits = fits a.0.tree;
+            named = named a.0.tree ∙ ap Some (sym o.same);
+            low = low a.0.tree;
+            left = o.left;
+          };
           of_type = of_type a.0.tree;
           plain = plain a.0.tree;
         })
@@ -251,7 +265,8 @@ module _ (all : List Lexeme) where
     element_taken room s [] x tail is e = absurd is
     element_taken room s (t ∷ ts) x tail is e =
         let a = bind_ok e in
-        at_end (WordTakes starts.Element room s (t ∷ ts)) a.2 (at_end (λ (y : Found ℕ). WordTakes starts.Element room s (t ∷ ts) (found (qualifier (quals.Element y.tree)) y.scopes y.rest)) a.1 (record {
+        at_end (WordTakes starts.Element room s (t ∷ ts)) a.2 (at_end (λ (y : Found ℕ). WordTakes starts.Element room s
+        (t ∷ ts) (found (qualifier (quals.Element y.tree)) y.scopes y.rest)) a.1 (record {
           takes = record {
             spelled = ap (λ (front : List Lexeme). front ++ ts) (sym (element_is all numbered t ts tail));
             fits = (subst IsElement (sym (element_is all numbered t ts tail)) is, refl);
@@ -288,22 +303,34 @@ module _ (all : List Lexeme) where
         WordTakes start room s ts x
     unfolding word_by
     word_taken (starts.Storage keyword) room s ts x tail is least e =
-        one_taken (starts.Storage keyword) (λ token. storage (word_of keyword token)) (kinds.Keyword keyword) room s ts x tail is.0 (λ token k. refl) (λ token. is.1) (λ token. refl) (λ token. omega arith) (λ token e. absurd cc) (λ token e. refl) e
+        one_taken (starts.Storage keyword) (λ token. storage (word_of keyword token))
+        (kinds.Keyword keyword) room s ts x tail is.0 (λ token k. refl) (λ token. is.1) (λ token. refl)
+        (λ token. omega arith) (λ token e. absurd cc) (λ token e. refl) e
     word_taken starts.Thread room s ts x tail is least e =
-        one_taken starts.Thread thread (kinds.Keyword keywords.Thread) room s ts x tail is (λ token k. refl) (λ token. tt) (λ token. refl) (λ token. omega arith) (λ token e. absurd cc) (λ token e. refl) e
+        one_taken starts.Thread thread (kinds.Keyword keywords.Thread) room s ts x tail is (λ token k. refl)
+        (λ token. tt) (λ token. refl) (λ token. omega arith) (λ token e. absurd cc) (λ token e. refl) e
     word_taken starts.Inline room s ts x tail is least e =
-        one_taken starts.Inline inline_word (kinds.Keyword keywords.Inline) room s ts x tail is (λ token k. refl) (λ token. tt) (λ token. refl) (λ token. omega arith) (λ token e. absurd cc) (λ token e. refl) e
+        one_taken starts.Inline inline_word (kinds.Keyword keywords.Inline) room s ts x tail is (λ token k. refl)
+        (λ token. tt) (λ token. refl) (λ token. omega arith) (λ token e. absurd cc) (λ token e. refl) e
     word_taken starts.Noreturn room s ts x tail is least e =
-        one_taken starts.Noreturn noreturn (kinds.Keyword keywords.Noreturn) room s ts x tail is (λ token k. refl) (λ token. tt) (λ token. refl) (λ token. omega arith) (λ token e. absurd cc) (λ token e. refl) e
+        one_taken starts.Noreturn noreturn (kinds.Keyword keywords.Noreturn) room s ts x tail is (λ token k. refl)
+        (λ token. tt) (λ token. refl) (λ token. omega arith) (λ token e. absurd cc) (λ token e. refl) e
     word_taken (starts.Word keyword) room s ts x tail is least e =
-        one_taken (starts.Word keyword) (λ token. qualifier (quals.Word (word_of keyword token))) (kinds.Keyword keyword) room s ts x tail is.0 (λ token k. refl) (λ token. (is.1, is.2)) (λ token. refl) (λ token. omega arith) (λ token e. tt) (λ token e. refl) e
+        one_taken (starts.Word keyword) (λ token. qualifier (quals.Word (word_of keyword token)))
+        (kinds.Keyword keyword) room s ts x tail is.0 (λ token k. refl) (λ token. (is.1, is.2)) (λ token. refl)
+        (λ token. omega arith) (λ token e. tt) (λ token e. refl) e
     word_taken starts.Element room s ts x tail is least e = element_taken room s ts x tail is e
     word_taken starts.Index room s ts x tail is least e =
-        one_taken starts.Index (λ token. qualifier (quals.Index token)) kinds.Index room s ts x tail is (λ token k. refl) (λ token. (tt, refl)) (λ token. refl) (λ token. omega arith) (λ token e. tt) (λ token e. refl) e
+        one_taken starts.Index (λ token. qualifier (quals.Index token)) kinds.Index room s ts x tail is
+        (λ token k. refl) (λ token. (tt, refl)) (λ token. refl) (λ token. omega arith) (λ token e. tt)
+        (λ token e. refl) e
     word_taken (starts.Basic keyword) room s ts x tail is least e =
-        one_taken (starts.Basic keyword) (λ token. basic (word_of keyword token)) (kinds.Keyword keyword) room s ts x tail is (λ token k. refl) (λ token. tt) (λ token. refl) (λ token. omega arith) (λ token e. tt) (λ token e. refl) e
+        one_taken (starts.Basic keyword) (λ token. basic (word_of keyword token))
+        (kinds.Keyword keyword) room s ts x tail is (λ token k. refl) (λ token. tt) (λ token. refl)
+        (λ token. omega arith) (λ token e. tt) (λ token e. refl) e
     word_taken (starts.Struct keyword) room s ts x tail is least e = record {
-      takes = struct_sound all numbered tokens n inner laws keyword (room - 1) s ts x tail is.1 is.0 (less_room room least) e;
+      takes = struct_sound all numbered tokens n inner laws keyword (room - 1) s ts x tail is.1 is.0
+          (less_room room least) e;
       of_type = λ is. struct_taken keyword (room - 1) s ts x e;
       plain = λ is. type_word_plain x.tree (struct_taken keyword (room - 1) s ts x e);
     }
@@ -316,34 +343,46 @@ module _ (all : List Lexeme) where
         let a = bind_ok e in
         let i = tokens.attr_sound room s ts a.0 tail a.1 in
         at_end (WordTakes starts.Attribute room s ts) a.2 (record {
-          takes = record { spelled = i.spelled; fits = All-head (λ (a : Attr). IsGroup all a.group) a.0.tree [] i.fits; named = i.named; low = less_room room least; left = i.left };
+          takes = record {
+            spelled = i.spelled;
+            fits = All-head (λ (a : Attr). IsGroup all a.group) a.0.tree [] i.fits;
+            named = i.named;
+            low = less_room room least;
+            left = i.left;
+          };
           of_type = λ is. tt;
           plain = λ is. refl;
         })
     word_taken (starts.Name name) room s ts x tail is least e =
-        one_taken (starts.Name name) (λ token. typedef_name (record { token = token; name = name })) (kinds.Name name) room s ts x tail is.0 (λ token k. refl) (λ token. tt) (λ token. typed_scopes s name is.1)
+        one_taken (starts.Name name) (λ token. typedef_name (record { token = token; name = name }))
+        (kinds.Name name) room s ts x tail is.0 (λ token k. refl) (λ token. tt) (λ token. typed_scopes s name is.1)
         (λ token. less_room room least) (λ token e. tt) (λ token e. refl) e
     word_taken starts.Typeof room s ts x tail is least e =
-        let t = typeof_sound all numbered tokens n inner laws (room - 1) s ts x tail is (less_high room 3 least (omega arith)) e in
+        let t = typeof_sound all numbered tokens n inner laws (room - 1) s ts x tail is
+        (less_high room 3 least (omega arith)) e in
         record { takes = t.0; of_type = λ is. t.1; plain = λ is. type_word_plain x.tree t.1 }
     word_taken starts.Atomic room s ts x tail is least e =
-        let t = atomic_sound all numbered tokens n inner laws (room - 1) s ts x tail is (less_high room 4 least (omega arith)) e in
+        let t = atomic_sound all numbered tokens n inner laws (room - 1) s ts x tail is
+        (less_high room 4 least (omega arith)) e in
         record { takes = t.0; of_type = λ is. t.1; plain = λ is. type_word_plain x.tree t.1 }
     word_taken starts.Align room s ts x tail is least e =
         let a = bind_ok e in
         let i = tokens.align_sound room s ts a.0 tail is a.1 in
         at_end (WordTakes starts.Align room s ts) a.2 (record {
-          takes = record { spelled = i.spelled; fits = i.fits; named = i.named; low = less_room room least; left = i.left };
+          takes =
+              record { spelled = i.spelled; fits = i.fits; named = i.named; low = less_room room least; left = i.left };
           of_type = λ e. absurd cc;
           plain = λ is. refl;
         })
     word_taken starts.Auto room s ts x tail is least e =
-        one_taken starts.Auto auto_word (kinds.Keyword keywords.AutoType) room s ts x tail is (λ token k. refl) (λ token. tt) (λ token. refl) (λ token. less_room room least)
+        one_taken starts.Auto auto_word (kinds.Keyword keywords.AutoType) room s ts x tail is (λ token k. refl)
+        (λ token. tt) (λ token. refl) (λ token. less_room room least)
         (λ token e. absurd cc) (λ token e. absurd cc) e
     word_taken starts.Nothing room s ts x tail is least e = absurd cc
 
     -- what was read so far, behind the words that stood already
-    record TakesRest (role : Role) (words : SpecWords) (room : ℕ) (s : HeldScopes) (ts : List Lexeme) (x : Found SpecWords) : Type 0 where
+    record TakesRest (role : Role) (words : SpecWords) (room : ℕ) (s : HeldScopes) (ts : List Lexeme)
+        (x : Found SpecWords) : Type 0 where
       pub rest : SpecWords
       pub words_are : x.tree ≡ append_words words rest
       pub spelled : ts ≡ spec_words_text all rest x.rest
@@ -372,26 +411,34 @@ module _ (all : List Lexeme) where
         no_is true e = absurd cc
         no_is false e = refl
 
-    words_keep : (role : Role) (words : SpecWords) (room : ℕ) (s : HeldScopes) (ts : List Lexeme) (now : SpecWords) (t : HeldScopes) (k : List Lexeme) (x : Found SpecWords) →
-        TakesRest role words room s ts (found now t k) → word_turn inner role room now t k ≡ Some (done x) → TakesRest role words room s ts x
+    words_keep : (role : Role) (words : SpecWords) (room : ℕ) (s : HeldScopes) (ts : List Lexeme) (now : SpecWords)
+        (t : HeldScopes) (k : List Lexeme) (x : Found SpecWords) →
+        TakesRest role words room s ts (found now t k) → word_turn inner role room now t k ≡ Some (done x)
+        → TakesRest role words room s ts x
     words_keep role words room s ts now t k x h e =
         let p = turn_parts all tokens n inner laws role room now t k x e in
         let w = word_parts all tokens n inner laws role now (start_at t (is_typed now) (kind_at k)) room t k p.1 p.2 in
         subst (TakesRest role words room s ts) p.3 (by_word (start_at t (is_typed now) (kind_at k)) p.1 w.0 w.2
-        (word_taken (start_at t (is_typed now) (kind_at k)) room t k p.1 h.left (start_is t (is_typed now) (kind_at k)) (least_left (least_of (start_at t (is_typed now) (kind_at k))) (specs_height now) room w.2) w.3))
+        (word_taken (start_at t (is_typed now) (kind_at k)) room t k p.1 h.left (start_is t (is_typed now) (kind_at k))
+        (least_left (least_of (start_at t (is_typed now) (kind_at k))) (specs_height now) room w.2) w.3))
       where
         by_word : (start : SpecStart) (y : Found SpecWord) → may_stand role start ≡ true
             → max (least_of start) (specs_height now) ≤ room → WordTakes start room t k y →
             TakesRest role words room s ts (found (pushed now y.tree) y.scopes y.rest)
         by_word start y may high w =
-            let one : 1 ≤ room = one_least (least_of start) room (least_one start) (least_left (least_of start) (specs_height now) room high) in
+            let one : 1 ≤ room = one_least (least_of start) room (least_one start)
+            (least_left (least_of start) (specs_height now) room high) in
             record {
               rest = pushed h.rest y.tree;
-              words_are = ap (λ (ws : SpecWords). pushed ws y.tree) h.words_are ∙ append_append words h.rest (more_words y.tree no_words);
-              spelled = h.spelled ∙ ap (spec_words_text all h.rest) w.takes.spelled ∙ sym (pushed_text h.rest y.tree y.rest);
-              fits = pushed_fits role h.rest y.tree h.fits w.takes.fits (λ is. w.of_type (of_role role start may is)) (λ is. w.plain (of_typed role start may is));
+              words_are = ap (λ (ws : SpecWords). pushed ws y.tree) h.words_are
+                  ∙ append_append words h.rest (more_words y.tree no_words);
+              spelled =
+                  h.spelled ∙ ap (spec_words_text all h.rest) w.takes.spelled ∙ sym (pushed_text h.rest y.tree y.rest);
+              fits = pushed_fits role h.rest y.tree h.fits w.takes.fits (λ is. w.of_type (of_role role start may is))
+                  (λ is. w.plain (of_typed role start may is));
               named = pushed_scopes h.rest y.tree s t y.scopes h.named w.takes.named;
-              low = inr (pushed_height now y.tree room (least_right (least_of start) (specs_height now) room high) (one_more (spec_word_height y.tree) room one w.takes.low));
+              low = inr (pushed_height now y.tree room (least_right (least_of start) (specs_height now) room high)
+                  (one_more (spec_word_height y.tree) room one w.takes.low));
               left = w.takes.left;
             }
 
@@ -410,15 +457,19 @@ module _ (all : List Lexeme) where
         last_of true true true false true h = absurd cc
 
         by_end : (b : Bool) → ends_before s words (starts.Basic keywords.BaseWord) ≡ b →
-            (if b then None else Some (and_then (word_with inner role words (starts.Basic keywords.BaseWord) room s ts) (λ word. ends (pushed words word.tree) word.scopes word.rest))) ≡ None →
+            (if b then None else Some (and_then (word_with inner role words (starts.Basic keywords.BaseWord) room s ts)
+            (λ word. ends (pushed words word.tree) word.scopes word.rest))) ≡ None →
             goes_on words (classes.Spells keywords.BaseWord) ≡ false
-        by_end true is e = last_of (is_wide s || has_auto words) true (has_typedef_word (storage_words words)) (is_whole_mix words) (goes_on words (classes.Spells keywords.BaseWord)) is
+        by_end true is e =
+            last_of (is_wide s || has_auto words) true (has_typedef_word (storage_words words)) (is_whole_mix words)
+            (goes_on words (classes.Spells keywords.BaseWord)) is
         by_end false is e = absurd cc
 
         at_kind : (kind : TokenKind) → is_base_word kind ≡ true
             → word_turn_by inner role room (start_at s (is_typed words) kind) words s ts ≡ None
             → goes_on words (classes.Spells keywords.BaseWord) ≡ false
-        at_kind (kinds.Keyword keywords.BaseWord) base e = by_end (ends_before s words (starts.Basic keywords.BaseWord)) refl e
+        at_kind (kinds.Keyword keywords.BaseWord) base e =
+            by_end (ends_before s words (starts.Basic keywords.BaseWord)) refl e
         at_kind kind base e = absurd cc
 
     pub specs_sound : WholeAreMixes
@@ -429,12 +480,22 @@ module _ (all : List Lexeme) where
     specs_sound whole_are role words room s ts x tail e =
         let a = bind_ok e in
         let w = whole_ok all tokens n inner laws a.0.tree a.0.scopes a.0.rest x a.2 in
-        of_rest x (subst (TakesRest role words room s ts) w.1 (run-keep (word_turn inner role room) (λ now t k. TakesRest role words room s ts (found now t k))
+        of_rest x (subst (TakesRest role words room s ts) w.1
+        (run-keep (word_turn inner role room) (λ now t k. TakesRest role words room s ts (found now t k))
         (λ now t k x h e. words_keep role words room s ts now t k x h e) words s ts a.0
-        (record { rest = no_words; words_are = sym (append_nothing words); spelled = refl; fits = none_fit role; named = refl; low = inl refl; left = tail }) a.1))
+        (record {
+          rest = no_words;
+          words_are = sym (append_nothing words);
+          spelled = refl;
+          fits = none_fit role;
+          named = refl;
+          low = inl refl;
+          left = tail;
+        }) a.1))
         (subst (λ (x : Found SpecWords). is_whole_mix x.tree ≡ true) w.1 w.0)
         (subst (λ (x : Found SpecWords). word_turn inner role room x.tree x.scopes x.rest ≡ None) w.1
-        (run_stops (word_turn inner role room) (word_turn_shrinks all tokens n inner laws role room) words s ts a.0 a.1))
+        (run_stops (word_turn inner role room)
+        (word_turn_shrinks all tokens n inner laws role room) words s ts a.0 a.1))
       where
         of_rest : (y : Found SpecWords) → TakesRest role words room s ts y → is_whole_mix y.tree ≡ true
             → word_turn inner role room y.tree y.scopes y.rest ≡ None → TakesWords all role words room s ts y

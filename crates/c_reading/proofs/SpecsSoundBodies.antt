@@ -40,6 +40,7 @@ pub attrs_low : (attrs : List Attr) (room : ℕ) → least_with attrs ≤ room �
 attrs_low [] room h = omega arith
 attrs_low (a ∷ attrs) room h = omega (arith, h)
 
+-- a declarator is at least 1 high
 pub declr_high : (d : Declr) → 1 ≤ declr_height d
 declr_high (pointer star words d) = omega arith
 declr_high (declr_name token name) = omega arith
@@ -82,10 +83,16 @@ module _ (all : List Lexeme) where
   }
 
   abbrev pub body_form : Option Identifier → Form SomeBody
-  body_form tag = record { text = some_body_text all; Fits = λ b. HasTagOrBody tag b × IsBody all b; scopes = some_body_scopes; height = some_body_height }
+  body_form tag = record {
+    text = some_body_text all;
+    Fits = λ b. HasTagOrBody tag b × IsBody all b;
+    scopes = some_body_scopes;
+    height = some_body_height;
+  }
 
   abbrev pub word_form : Form SpecWord
-  word_form = record { text = spec_word_text all; Fits = IsSpecWord all; scopes = spec_word_scopes; height = spec_word_height }
+  word_form =
+      record { text = spec_word_text all; Fits = IsSpecWord all; scopes = spec_word_scopes; height = spec_word_height }
 
   module _ (numbered : IsNumbered all) (tokens : TokenLaws all) (n : ℕ) (inner : Inner) (laws : Laws all n inner) where
     pub value_sound : (test : TokenKind → Bool) (mark : Punct)
@@ -106,7 +113,8 @@ module _ (all : List Lexeme) where
           low = i.low;
           left = i.left;
         }))
-        (λ is e. at_end (Takes all (some_value_form all mark) (room - 1) s ts) e (record { spelled = refl; fits = tt; named = refl; low = omega arith; left = tail }))
+        (λ is e. at_end (Takes all (some_value_form all mark) (room - 1) s ts) e
+        (record { spelled = refl; fits = tt; named = refl; low = omega arith; left = tail }))
 
     width_sound : (room : ℕ) (s : HeldScopes) (ts : List Lexeme) (x : Found MemDeclr) → IsTail all ts
         → is_colon (kind_at ts) ≡ true → width_with inner room s ts ≡ done x
@@ -121,10 +129,12 @@ module _ (all : List Lexeme) where
         let i = laws.exprs.sound Conditional (room - 1) a.0.scopes a.0.rest b.0 o.left b.1 in
         let q = tokens.attrs_sound room b.0.scopes b.0.rest c.0 i.left c.1 in
         at_end (Takes all (mem_declr_form all) room s ts) c.2 (record {
-          spelled = o.spelled ∙ ap (sign_text puncts.Colon a.0.tree) (i.spelled ∙ ap (expr_text all b.0.tree) q.spelled);
+          spelled =
+              o.spelled ∙ ap (sign_text puncts.Colon a.0.tree) (i.spelled ∙ ap (expr_text all b.0.tree) q.spelled);
           fits = (i.fits.0, i.fits.1, q.fits);
           named = through (expr_scopes b.0.tree) o.same i.named (same_scopes q.named);
-          low = two_low (expr_height b.0.tree) (attrs_height c.0.tree) room (omega (arith, r.0)) i.low (attrs_low c.0.tree room q.low);
+          low = two_low (expr_height b.0.tree) (attrs_height c.0.tree) room (omega (arith, r.0)) i.low
+              (attrs_low c.0.tree room q.low);
           left = q.left;
         })
 
@@ -138,17 +148,20 @@ module _ (all : List Lexeme) where
         let v = value_sound is_colon puncts.Colon colon_kind room a.0.scopes a.0.rest b.0 d.left b.1 in
         let q = tokens.attrs_sound room b.0.scopes b.0.rest c.0 v.left c.1 in
         at_end (Takes all (mem_declr_form all) room s ts) c.2 (record {
-          spelled = d.spelled ∙ ap (declr_text all a.0.tree) (v.spelled ∙ ap (some_value_text all puncts.Colon b.0.tree) q.spelled);
+          spelled = d.spelled
+              ∙ ap (declr_text all a.0.tree) (v.spelled ∙ ap (some_value_text all puncts.Colon b.0.tree) q.spelled);
           fits = (d.fits.0, d.fits.1, v.fits, q.fits, d.fits.2);
           named = behind_is (some_value_scopes b.0.tree) d.named (v.named ∙ q.named);
-          low = three_low (declr_height a.0.tree) (some_value_height b.0.tree) (attrs_height c.0.tree) room (declr_high a.0.tree) d.low v.low (attrs_low c.0.tree room q.low);
+          low = three_low (declr_height a.0.tree) (some_value_height b.0.tree) (attrs_height c.0.tree) room
+              (declr_high a.0.tree) d.low v.low (attrs_low c.0.tree room q.low);
           left = q.left;
         })
 
     mem_declr_sound : (room : ℕ) → IsSound all (mem_declr_form all) room (mem_declr_with inner room)
     unfolding mem_declr_with
     mem_declr_sound room s ts x tail e =
-        if_ok (is_colon (kind_at ts)) e (λ is e. width_sound room s ts x tail is e) (λ is e. field_sound room s ts x tail e)
+        if_ok (is_colon (kind_at ts)) e (λ is e. width_sound room s ts x tail is e)
+        (λ is e. field_sound room s ts x tail e)
 
     first_member_sound : (room : ℕ) → IsSound all (member_form all) room (first_member inner room)
     unfolding first_member
@@ -173,13 +186,16 @@ module _ (all : List Lexeme) where
         let b = bind_ok a.2 in
         let q = tokens.attrs_sound room s ts a.0 tail a.1 in
         let d = mem_declr_sound room a.0.scopes a.0.rest b.0 q.left b.1 in
-        let less' : length b.0.rest < length ts = subst (λ (x : Found (Next MemberItem ⊥)). length x.rest < length ts) (sym (ok_is b.2)) less in
-        at_end (λ (x : Found (Next MemberItem ⊥)). NextTakes all (member_form all) member_ending room comma s ts x.tree x.scopes x.rest) b.2 (
+        let less' : length b.0.rest < length ts =
+        subst (λ (x : Found (Next MemberItem ⊥)). length x.rest < length ts) (sym (ok_is b.2)) less in
+        at_end (λ (x : Found (Next MemberItem ⊥)). NextTakes all
+        (member_form all) member_ending room comma s ts x.tree x.scopes x.rest) b.2 (
           record {
             spelled = q.spelled ∙ ap (attrs_text all a.0.tree) d.spelled;
             fits = (q.fits, d.fits);
             named = through (mem_declr_scopes b.0.tree) (same_scopes q.named) d.named refl;
-            low = pair_low (attrs_height a.0.tree) (mem_declr_height b.0.tree) room (attrs_low a.0.tree room q.low) d.low;
+            low =
+                pair_low (attrs_height a.0.tree) (mem_declr_height b.0.tree) room (attrs_low a.0.tree room q.low) d.low;
             left = d.left;
           },
           less',
@@ -211,15 +227,18 @@ module _ (all : List Lexeme) where
         run-keep (comma_turn (next_member inner room)) (λ l s k. StartsBare l.items)
         (λ l s k x h e. let p = list_parts (first_member inner room) (next_member inner room) l s k x e in
         subst (λ (x : Found (CommaList MemberItem ⊥)). StartsBare x.tree.items) p.7 (bare_next l.items p.2.tree h))
-        (record { items = a.0.tree ∷ []; ending = None }) a.0.scopes a.0.rest x (at_end (λ (x : Found MemberItem). x.tree.attrs ≡ []) b.2 refl) a.2
+        (record { items = a.0.tree ∷ []; ending = None }) a.0.scopes a.0.rest x
+        (at_end (λ (x : Found MemberItem). x.tree.attrs ≡ []) b.2 refl) a.2
 
     mem_declrs_sound : (room : ℕ) → IsSound all mem_declrs_form room (mem_declrs_with inner room)
     unfolding mem_declrs_with
     mem_declrs_sound room s ts x tail e =
         if_ok (is_semicolon (kind_at ts)) e
-        (λ is e. at_end (Takes all mem_declrs_form room s ts) e (record { spelled = refl; fits = (tt, tt); named = refl; low = omega arith; left = tail }))
+        (λ is e. at_end (Takes all mem_declrs_form room s ts) e
+        (record { spelled = refl; fits = (tt, tt); named = refl; low = omega arith; left = tail }))
         (λ is e. let a = bind_ok e in
-        let i = listed_sound (first_member inner room) (next_member inner room) all numbered (member_form all) member_ending room
+        let i = listed_sound (first_member inner room) (next_member inner room) all numbered
+        (member_form all) member_ending room
         (first_member_sound room) (next_member_sound room) s ts a.0 tail a.1 in
         at_end (Takes all mem_declrs_form room s ts) a.2 (of_list a.0 i (bare_sound room s ts a.0 a.1)))
       where
@@ -235,7 +254,8 @@ module _ (all : List Lexeme) where
         }
           where
             by_ending : (o : Option ⊥)
-                → ts ≡ commas_text (member_form all) member_ending l.tree.items (ending_text (member_form all) member_ending o l.rest) →
+                → ts ≡ commas_text (member_form all) member_ending l.tree.items
+                (ending_text (member_form all) member_ending o l.rest) →
                 ts ≡ mem_declrs_text all (mem_declrs_from l.tree.items) l.rest
             by_ending None is = is ∙ declrs_are all l.tree.items l.rest
             by_ending (Some e) is = absurd e
@@ -250,11 +270,15 @@ module _ (all : List Lexeme) where
         let g = tokens.exts_sound room s ts a.0 tail a.1 in
         let w = specs_here_sound all n inner laws Typed room a.0.scopes a.0.rest b.0 g.left b.1 in
         let m = mem_declrs_sound (room - 1) b.0.scopes b.0.rest c.0 w.left c.1 in
-        let q = took_token all is_semicolon (kinds.Punct puncts.Semicolon) semicolon_kind c.0.scopes c.0.rest d.0 m.left d.1 in
+        let q =
+        took_token all is_semicolon (kinds.Punct puncts.Semicolon) semicolon_kind c.0.scopes c.0.rest d.0 m.left d.1 in
         at_end (Takes all (struct_item_form all) room s ts) d.2 (record {
-          spelled = g.spelled ∙ ap (extensions_text a.0.tree) (w.spelled ∙ ap (spec_words_text all b.0.tree) (m.spelled ∙ ap (mem_declrs_text all (mem_declrs_from c.0.tree)) q.spelled));
+          spelled = g.spelled ∙ ap (extensions_text a.0.tree) (w.spelled ∙ ap (spec_words_text all b.0.tree)
+              (m.spelled ∙ ap (mem_declrs_text all (mem_declrs_from c.0.tree)) q.spelled));
           fits = (w.fits.0, w.fits.1.0, w.fits.1.1, m.fits.0, m.fits.1);
-          named = behind_is (mem_declrs_scopes (mem_declrs_from c.0.tree)) (through (spec_words_scopes b.0.tree) (same_scopes g.named) w.named refl) (m.named ∙ ap Some (sym q.same));
+          named = behind_is (mem_declrs_scopes (mem_declrs_from c.0.tree))
+              (through (spec_words_scopes b.0.tree) (same_scopes g.named) w.named refl)
+              (m.named ∙ ap Some (sym q.same));
           low = member_low (specs_height b.0.tree) (mem_declrs_height (mem_declrs_from c.0.tree)) room w.low m.low;
           left = q.left;
         })
@@ -266,12 +290,14 @@ module _ (all : List Lexeme) where
         (λ is e. let r = fits_ok 1 room ts e in
         let a = bind_ok r.1 in
         let o = took all (kinds.Punct puncts.Semicolon) s ts a.0 tail (semicolon_kind (kind_at ts) is) a.1 in
-        at_end (Takes all (struct_item_form all) room s ts) a.2 (record { spelled = o.spelled; fits = tt; named = ap Some (sym o.same); low = r.0; left = o.left }))
+        at_end (Takes all (struct_item_form all) room s ts) a.2
+        (record { spelled = o.spelled; fits = tt; named = ap Some (sym o.same); low = r.0; left = o.left }))
         (λ is e. if_ok (is_static_assert (kind_at ts)) e
         (λ is e. let r = fits_ok 1 room ts e in
         let a = bind_ok r.1 in
         let o = tokens.assert_sound room s ts a.0 tail a.1 in
-        at_end (Takes all (struct_item_form all) room s ts) a.2 (record { spelled = o.spelled; fits = o.fits; named = o.named; low = r.0; left = o.left }))
+        at_end (Takes all (struct_item_form all) room s ts) a.2
+        (record { spelled = o.spelled; fits = o.fits; named = o.named; low = r.0; left = o.left }))
         (λ is e. member_sound room s ts x tail e))
 
     members_sound : (tag : Option Identifier) (room : ℕ) (s : HeldScopes) (ts : List Lexeme) (x : Found SomeBody)
@@ -283,12 +309,16 @@ module _ (all : List Lexeme) where
         let b = bind_ok a.2 in
         let c = bind_ok b.2 in
         let o = took all (kinds.Punct puncts.OpenBrace) s ts a.0 tail (open_brace_kind (kind_at ts) is) a.1 in
-        let i = repeated_sound (λ kind. not (is_close_brace kind)) (struct_item_with inner (room - 1)) all (struct_item_form all) (room - 1) (struct_item_sound (room - 1)) a.0.scopes a.0.rest b.0 o.left b.1 in
-        let q = took_token all is_close_brace (kinds.Punct puncts.CloseBrace) close_brace_kind b.0.scopes b.0.rest c.0 i.left c.1 in
+        let i = repeated_sound (λ kind. not (is_close_brace kind)) (struct_item_with inner (room - 1)) all
+        (struct_item_form all) (room - 1) (struct_item_sound (room - 1)) a.0.scopes a.0.rest b.0 o.left b.1 in
+        let q = took_token all is_close_brace
+        (kinds.Punct puncts.CloseBrace) close_brace_kind b.0.scopes b.0.rest c.0 i.left c.1 in
         at_end (Takes all (body_form tag) (room - 1) s ts) c.2 (record {
-          spelled = o.spelled ∙ ap (sign_text puncts.OpenBrace a.0.tree) (i.spelled ∙ items_are all b.0.tree b.0.rest ∙ ap (struct_items_text all (struct_items_from b.0.tree)) q.spelled);
+          spelled = o.spelled ∙ ap (sign_text puncts.OpenBrace a.0.tree) (i.spelled ∙ items_are all b.0.tree b.0.rest
+              ∙ ap (struct_items_text all (struct_items_from b.0.tree)) q.spelled);
           fits = (has tag a.0.tree (struct_items_from b.0.tree) c.0.tree, items_fit all b.0.tree i.fits);
-          named = through (struct_items_scopes (struct_items_from b.0.tree)) o.same (sym (items_named all b.0.tree a.0.scopes) ∙ i.named) q.same;
+          named = through (struct_items_scopes (struct_items_from b.0.tree)) o.same
+              (sym (items_named all b.0.tree a.0.scopes) ∙ i.named) q.same;
           low = subst (λ (h : ℕ). h ≤ room - 1) (items_high all b.0.tree) i.low;
           left = q.left;
         })
@@ -300,13 +330,16 @@ module _ (all : List Lexeme) where
 
     without_sound : (tag : Option Identifier) (room : ℕ) → IsSound all (body_form tag) room (without_body tag no_body)
     without_sound None room s ts x tail e = absurd cc
-    without_sound (Some tag) room s ts x tail e = at_end (Takes all (body_form (Some tag)) room s ts) e (record { spelled = refl; fits = (tt, tt); named = refl; low = omega arith; left = tail })
+    without_sound (Some tag) room s ts x tail e =
+        at_end (Takes all (body_form (Some tag)) room s ts) e
+        (record { spelled = refl; fits = (tt, tt); named = refl; low = omega arith; left = tail })
 
     body_sound : (tag : Option Identifier) (room : ℕ)
         → IsSound all (body_form tag) (room - 1) (body_with inner tag room)
     unfolding body_with
     body_sound tag room s ts x tail e =
-        if_ok (is_open_brace (kind_at ts)) e (λ is e. members_sound tag room s ts x tail is e) (λ is e. without_sound tag (room - 1) s ts x tail e)
+        if_ok (is_open_brace (kind_at ts)) e (λ is e. members_sound tag room s ts x tail is e)
+        (λ is e. without_sound tag (room - 1) s ts x tail e)
 
     pub struct_sound : (keyword : Keyword) (room : ℕ) (s : HeldScopes) (ts : List Lexeme) (x : Found SpecWord)
         → IsTail all ts → is_struct keyword ≡ true → kind_at ts ≡ kinds.Keyword keyword → 1 ≤ room →
@@ -322,9 +355,11 @@ module _ (all : List Lexeme) where
         let t = took_tag all b.0.scopes b.0.rest c.0 q.left c.1 in
         let i = body_sound c.0.tree room c.0.scopes c.0.rest d.0 t.left d.1 in
         at_end (Takes all word_form room s ts) d.2 (record {
-          spelled = o.spelled ∙ ap (keyword_text keyword a.0.tree) (q.spelled ∙ ap (attrs_text all b.0.tree) (t.spelled ∙ ap (tag_text c.0.tree) i.spelled));
+          spelled = o.spelled ∙ ap (keyword_text keyword a.0.tree)
+              (q.spelled ∙ ap (attrs_text all b.0.tree) (t.spelled ∙ ap (tag_text c.0.tree) i.spelled));
           fits = (struct, q.fits, i.fits.0, i.fits.1);
           named = through (some_body_scopes d.0.tree) (t.same ∙ same_scopes q.named ∙ o.same) i.named refl;
-          low = two_low (attrs_height b.0.tree) (some_body_height d.0.tree) room one (attrs_low b.0.tree room q.low) i.low;
+          low = two_low (attrs_height b.0.tree) (some_body_height d.0.tree) room one
+              (attrs_low b.0.tree room q.low) i.low;
           left = i.left;
         })

@@ -22,7 +22,8 @@ use Rattle.c_reading.proofs.StmtSound.{part_ended}
 abbrev pub Ended : Found Stmt → Type 0
 Ended x = takes_else x.tree ≡ true → is_else (kind_at x.rest) ≡ false
 
-module _ (all : List Lexeme) (numbered : IsNumbered all) (tokens : TokenLaws all) (n : ℕ) (inner : Inner) (laws : Laws all n inner) (goes : MixesGoOn) where
+module _ (all : List Lexeme) (numbered : IsNumbered all) (tokens : TokenLaws all) (n : ℕ) (inner : Inner)
+    (laws : Laws all n inner) (goes : MixesGoOn) where
   inside_ended : (s : HeldScopes) (ts : List Lexeme) (read : Reader Stmt) (x : Found Stmt)
       → ((y : Found Stmt) → read (enter s) ts ≡ done y → Ended y) → in_own read s ts ≡ done x → Ended x
   inside_ended s ts read x inside e = let a = bind_ok e in at_end Ended a.2 (inside a.0 a.1)
@@ -59,12 +60,15 @@ module _ (all : List Lexeme) (numbered : IsNumbered all) (tokens : TokenLaws all
       if_ok (is_else (kind_at ts)) e (λ is e.
       let a = bind_ok e in
       let b = bind_ok a.2 in
-      at_end (λ (x : Found SomeElse). other_takes_else x.tree ≡ true → is_else (kind_at x.rest) ≡ false) b.2 (part_ended all numbered tokens n inner laws goes room a.0.scopes a.0.rest b.0 b.1)) (λ is e.
-      at_end (λ (x : Found SomeElse). other_takes_else x.tree ≡ true → is_else (kind_at x.rest) ≡ false) e (λ takes. is))
+      at_end (λ (x : Found SomeElse). other_takes_else x.tree ≡ true → is_else (kind_at x.rest) ≡ false) b.2
+      (part_ended all numbered tokens n inner laws goes room a.0.scopes a.0.rest b.0 b.1)) (λ is e.
+      at_end (λ (x : Found SomeElse). other_takes_else x.tree ≡ true
+      → is_else (kind_at x.rest) ≡ false) e (λ takes. is))
 
   stmt_by_ended : (start : StmtStart) (room : ℕ) (s : HeldScopes) (ts : List Lexeme) (x : Found Stmt)
       → stmt_by inner start room s ts ≡ done x → Ended x
-  unfolding stmt_by range_behind value_behind goto_value_with goto_name case_with default_with if_inside headed_inside do_inside for_inside goto_with jump_with return_with asm_with attr_stmt_with named_stmt
+  unfolding stmt_by range_behind value_behind goto_value_with goto_name case_with default_with if_inside headed_inside
+      do_inside for_inside goto_with jump_with return_with asm_with attr_stmt_with named_stmt
   stmt_by_ended starts.Block room s ts x e = let a = bind_ok e in never_taken a.2 refl
   stmt_by_ended starts.Semicolon room s ts x e = let a = bind_ok (fits_ok _ _ _ e).1 in never_taken a.2 refl
   stmt_by_ended starts.Attribute room s ts x e =
@@ -105,14 +109,16 @@ module _ (all : List Lexeme) (numbered : IsNumbered all) (tokens : TokenLaws all
       let c = bind_ok b.2 in
       let d = bind_ok c.2 in
       let f = bind_ok d.2 in
-      at_end Ended f.2 (part_ended all numbered tokens n inner laws goes (room - 1) d.0.scopes d.0.rest f.0 f.1)) (fits_ok _ _ _ e).1
+      at_end Ended f.2 (part_ended all numbered tokens n inner laws goes (room - 1) d.0.scopes d.0.rest f.0 f.1))
+      (fits_ok _ _ _ e).1
   stmt_by_ended starts.While room s ts x e = inside_ended s ts (headed_inside inner while_stmt room) x (λ y e.
       let a = bind_ok e in
       let b = bind_ok a.2 in
       let c = bind_ok b.2 in
       let d = bind_ok c.2 in
       let f = bind_ok d.2 in
-      at_end Ended f.2 (part_ended all numbered tokens n inner laws goes (room - 1) d.0.scopes d.0.rest f.0 f.1)) (fits_ok _ _ _ e).1
+      at_end Ended f.2 (part_ended all numbered tokens n inner laws goes (room - 1) d.0.scopes d.0.rest f.0 f.1))
+      (fits_ok _ _ _ e).1
   stmt_by_ended starts.Do room s ts x e = inside_ended s ts (do_inside inner room) x (λ y e.
       let a = bind_ok e in
       let b = bind_ok a.2 in
@@ -131,7 +137,8 @@ module _ (all : List Lexeme) (numbered : IsNumbered all) (tokens : TokenLaws all
       let g = bind_ok f.2 in
       let h = bind_ok g.2 in
       let i = bind_ok h.2 in
-      at_end Ended i.2 (part_ended all numbered tokens n inner laws goes (room - 1) h.0.scopes h.0.rest i.0 i.1)) (fits_ok _ _ _ e).1
+      at_end Ended i.2 (part_ended all numbered tokens n inner laws goes (room - 1) h.0.scopes h.0.rest i.0 i.1))
+      (fits_ok _ _ _ e).1
   stmt_by_ended starts.Goto room s ts x e =
       let a = bind_ok (fits_ok _ _ _ e).1 in
       if_ok (is_wide a.0.scopes && is_star (kind_at a.0.rest)) a.2 (λ is e.
@@ -162,7 +169,8 @@ module _ (all : List Lexeme) (numbered : IsNumbered all) (tokens : TokenLaws all
       let d = bind_ok c.2 in
       never_taken d.2 refl
   stmt_by_ended starts.Value room s ts x e =
-      if_ok (begins_expr s (kind_at ts)) e (λ begun e. expr_stmt_ended nothing room s ts x (fits_ok _ _ _ e).1) (λ begun e. absurd cc)
+      if_ok (begins_expr s (kind_at ts)) e (λ begun e. expr_stmt_ended nothing room s ts x (fits_ok _ _ _ e).1)
+      (λ begun e. absurd cc)
 
   pub stmt_ended : (room : ℕ) (s : HeldScopes) (ts : List Lexeme) (x : Found Stmt) → stmt_with inner room s ts ≡ done x
       → Ended x

@@ -36,7 +36,8 @@ module _ (all : List Lexeme) (tokens : TokenLaws all) (n : ℕ) (inner : Inner) 
       if_ok (is_asm (kind_at ts)) e (λ is e.
       let a = bind_ok e in
       let b = bind_ok a.2 in
-      omega (arith, take_falls _ _ _ a.1, tokens.group_shrinks _ _ _ b.1, left_is b.2)) (λ is e. omega (arith, left_is e))
+      omega (arith, take_falls _ _ _ a.1, tokens.group_shrinks _ _ _ b.1, left_is b.2))
+      (λ is e. omega (arith, left_is e))
 
   pub some_init_falls : (room : ℕ) → Falls (some_init_with inner room)
   unfolding some_init_with
@@ -44,7 +45,8 @@ module _ (all : List Lexeme) (tokens : TokenLaws all) (n : ℕ) (inner : Inner) 
       if_ok (is_equal (kind_at ts)) e (λ is e.
       let a = bind_ok e in
       let b = bind_ok a.2 in
-      omega (arith, take_falls _ _ _ a.1, init_shrinks all n inner laws (room - 1) _ _ _ b.1, left_is b.2)) (λ is e. omega (arith, left_is e))
+      omega (arith, take_falls _ _ _ a.1, init_shrinks all n inner laws (room - 1) _ _ _ b.1, left_is b.2))
+      (λ is e. omega (arith, left_is e))
 
   pub declr_behind_falls : (before : List Attr) (d : Declr) (room : ℕ) → Falls (declr_behind inner before d room)
   unfolding declr_behind
@@ -81,7 +83,12 @@ module _ (all : List Lexeme) (tokens : TokenLaws all) (n : ℕ) (inner : Inner) 
   declrs_shrinks exts words kind room first falls s ts x e =
       let a = bind_ok e in
       let b = bind_ok a.2 in
-      omega (arith, listed_falls first (next_init_declr inner kind (room - 1)) (next_declr_falls kind (room - 1)) falls _ _ _ a.1, token_falls is_semicolon _ _ _ b.1, left_is b.2)
+      omega (
+        arith,
+        listed_falls first (next_init_declr inner kind (room - 1)) (next_declr_falls kind (room - 1)) falls _ _ _ a.1,
+        token_falls is_semicolon _ _ _ b.1,
+        left_is b.2,
+      )
 
   pub bare_shrinks : (exts : List ℕ) (words : SpecWords) (room : ℕ) → Shrinks (bare_declaration inner exts words room)
   unfolding bare_declaration
@@ -91,7 +98,8 @@ module _ (all : List Lexeme) (tokens : TokenLaws all) (n : ℕ) (inner : Inner) 
       omega (arith, take_falls _ _ _ a.1, left_is a.2)
 
   -- a name that is held, whatever the scopes made of it
-  name_held_shrinks : (name room : ℕ) (held : Option HeldScopes) (s : HeldScopes) (ts : List Lexeme) (x : Found Declared)
+  name_held_shrinks : (name room : ℕ) (held : Option HeldScopes) (s : HeldScopes) (ts : List Lexeme)
+      (x : Found Declared)
       → name_held name room held s ts ≡ done x → length x.rest < length ts
   name_held_shrinks name room None s ts x e = absurd cc
   name_held_shrinks name room (Some held) s ts x e =
@@ -108,7 +116,11 @@ module _ (all : List Lexeme) (tokens : TokenLaws all) (n : ℕ) (inner : Inner) 
   auto_name_shrinks None room s ts x e = absurd cc
   auto_name_shrinks (Some name) room s ts x e =
       let a = bind_ok e in
-      omega (arith, name_held_shrinks name room (at_name (Some Value) name s) s ts a.0 a.1, present_falls a.0.tree.declr a.0.scopes a.0.rest x a.2)
+      omega (
+        arith,
+        name_held_shrinks name room (at_name (Some Value) name s) s ts a.0 a.1,
+        present_falls a.0.tree.declr a.0.scopes a.0.rest x a.2,
+      )
 
   auto_declr_shrinks : (exts : List ℕ) (words : SpecWords) (d : Declr) (room : ℕ)
       → Shrinks (auto_declr inner exts words d room)
@@ -118,7 +130,14 @@ module _ (all : List Lexeme) (tokens : TokenLaws all) (n : ℕ) (inner : Inner) 
       let b = bind_ok a.2 in
       let c = bind_ok b.2 in
       let f = bind_ok c.2 in
-      omega (arith, tokens.attrs_falls _ _ _ _ a.1, token_falls is_equal _ _ _ b.1, laws.exprs.shrinks _ _ _ _ _ _ c.1, token_falls is_semicolon _ _ _ f.1, left_is f.2)
+      omega (
+        arith,
+        tokens.attrs_falls _ _ _ _ a.1,
+        token_falls is_equal _ _ _ b.1,
+        laws.exprs.shrinks _ _ _ _ _ _ c.1,
+        token_falls is_semicolon _ _ _ f.1,
+        left_is f.2,
+      )
 
   auto_declarator_shrinks : (typed : Bool) (room : ℕ) → Shrinks (auto_declarator inner typed room)
   auto_declarator_shrinks false room s ts x e = auto_name_shrinks (spelled_name (kind_at ts)) room s ts x e
@@ -132,7 +151,11 @@ module _ (all : List Lexeme) (tokens : TokenLaws all) (n : ℕ) (inner : Inner) 
   unfolding auto_behind
   auto_shrinks exts words room s ts x e =
       let a = bind_ok e in
-      omega (arith, auto_declarator_shrinks (has_typedef_word (storage_words words)) (room - 2) _ _ _ a.1, auto_declr_shrinks _ _ _ _ _ _ _ a.2)
+      omega (
+        arith,
+        auto_declarator_shrinks (has_typedef_word (storage_words words)) (room - 2) _ _ _ a.1,
+        auto_declr_shrinks _ _ _ _ _ _ _ a.2,
+      )
 
   pub declaration_behind_shrinks : (exts : List ℕ) (words : SpecWords) (room : ℕ)
       → Shrinks (declaration_behind inner exts words room)
@@ -140,13 +163,15 @@ module _ (all : List Lexeme) (tokens : TokenLaws all) (n : ℕ) (inner : Inner) 
   declaration_behind_shrinks exts words room s ts x e =
       if_ok (has_auto words) e (λ is e. auto_shrinks exts words room s ts x e) (λ is e.
       if_ok (is_semicolon (kind_at ts)) e (λ is e. bare_shrinks exts words room s ts x e) (λ is e.
-      declrs_shrinks exts words (declared_kind words) room (init_declr_with inner [] (declared_kind words) (room - 1)) (shrinks_falls _ (init_declr_shrinks [] (declared_kind words) (room - 1))) s ts x e))
+      declrs_shrinks exts words (declared_kind words) room (init_declr_with inner [] (declared_kind words) (room - 1))
+      (shrinks_falls _ (init_declr_shrinks [] (declared_kind words) (room - 1))) s ts x e))
 
   declaration_shrinks : (exts : List ℕ) (room : ℕ) → Shrinks (declaration_with inner exts room)
   unfolding declaration_with
   declaration_shrinks exts room s ts x e =
       let a = bind_ok e in
-      omega (arith, specs_here_shrinks all n inner laws Declaring room _ _ _ a.1, declaration_behind_shrinks _ _ _ _ _ _ a.2)
+      omega
+      (arith, specs_here_shrinks all n inner laws Declaring room _ _ _ a.1, declaration_behind_shrinks _ _ _ _ _ _ a.2)
 
   declaration_from_shrinks : (known : SpecWords) (room : ℕ) → Shrinks (declaration_from inner known room)
   unfolding declaration_from
@@ -168,7 +193,14 @@ module _ (all : List Lexeme) (tokens : TokenLaws all) (n : ℕ) (inner : Inner) 
       let b = bind_ok a.2 in
       let c = bind_ok b.2 in
       let d = bind_ok c.2 in
-      omega (arith, name_falls _ _ _ a.1, token_falls is_colon _ _ _ b.1, tokens.attrs_falls _ _ _ _ c.1, laws.stmts.shrinks _ _ _ _ d.1, left_is d.2)
+      omega (
+        arith,
+        name_falls _ _ _ a.1,
+        token_falls is_colon _ _ _ b.1,
+        tokens.attrs_falls _ _ _ _ c.1,
+        laws.stmts.shrinks _ _ _ _ d.1,
+        left_is d.2,
+      )
 
   as_is : {A B : Type 0} {x : Found B} {y : Found B} (z : Found A) (ts : List Lexeme) → length z.rest < length ts
       → done y ≡ done x → length y.rest ≡ length z.rest → length x.rest < length ts
@@ -231,7 +263,8 @@ module _ (all : List Lexeme) (tokens : TokenLaws all) (n : ℕ) (inner : Inner) 
       let a = bind_ok r.1 in
       omega (arith, tokens.assert_shrinks _ _ _ a.1, left_is a.2)) (λ is e.
       if_ok (is_extension (kind_at ts)) e (λ is e. extended_item_shrinks room s ts x e) (λ is e.
-      if_ok (is_attribute (kind_at ts)) e (λ is e. attr_item_shrinks room s ts x e) (λ is e. other_item_shrinks (spelled_name (kind_at ts)) room s ts x e)))
+      if_ok (is_attribute (kind_at ts)) e (λ is e. attr_item_shrinks room s ts x e)
+      (λ is e. other_item_shrinks (spelled_name (kind_at ts)) room s ts x e)))
 
   next_name_falls : (separator : ℕ) → Falls (next_name name_at separator)
   next_name_falls separator s ts x e =
@@ -249,7 +282,14 @@ module _ (all : List Lexeme) (tokens : TokenLaws all) (n : ℕ) (inner : Inner) 
       let b = bind_ok a.2 in
       let c = bind_ok b.2 in
       let l = bind_ok b.1 in
-      omega (arith, take_falls _ _ _ a.1, listed_shrinks name_at (next_name name_at) next_name_falls name_shrinks _ _ _ l.1, left_is l.2, token_falls is_semicolon _ _ _ c.1, left_is c.2)
+      omega (
+        arith,
+        take_falls _ _ _ a.1,
+        listed_shrinks name_at (next_name name_at) next_name_falls name_shrinks _ _ _ l.1,
+        left_is l.2,
+        token_falls is_semicolon _ _ _ c.1,
+        left_is c.2,
+      )
 
   pub block_body_shrinks : (room : ℕ) → Shrinks (block_body inner room)
   unfolding block_body
@@ -262,7 +302,8 @@ module _ (all : List Lexeme) (tokens : TokenLaws all) (n : ℕ) (inner : Inner) 
         arith,
         take_falls _ _ _ a.1,
         repeated_falls is_label_word (labels_with inner (room - 1)) (labels_shrinks (room - 1)) _ _ _ b.1,
-        repeated_falls (λ kind. not (is_close_brace kind)) (block_item_with inner (room - 1)) (block_item_shrinks (room - 1)) _ _ _ c.1,
+        repeated_falls (λ kind. not (is_close_brace kind)) (block_item_with inner (room - 1))
+            (block_item_shrinks (room - 1)) _ _ _ c.1,
         token_falls is_close_brace _ _ _ d.1,
         left_is d.2,
       )
@@ -275,7 +316,8 @@ module _ (all : List Lexeme) (tokens : TokenLaws all) (n : ℕ) (inner : Inner) 
   pub block_shrinks : (room : ℕ) → Shrinks (block_with inner room)
   unfolding block_with
   block_shrinks room s ts x e =
-      if_ok (is_open_brace (kind_at ts)) e (λ is e. in_own_shrinks (block_body inner room) (block_body_shrinks room) s ts x (fits_ok _ _ _ e).1) (λ is e. absurd cc)
+      if_ok (is_open_brace (kind_at ts)) e (λ is e. in_own_shrinks (block_body inner room)
+      (block_body_shrinks room) s ts x (fits_ok _ _ _ e).1) (λ is e. absurd cc)
 
   part_shrinks : (room : ℕ) → Shrinks (part_with inner room)
   part_shrinks room s ts x e = in_own_shrinks (inner.stmt room) (laws.stmts.shrinks room) s ts x e
@@ -294,7 +336,14 @@ module _ (all : List Lexeme) (tokens : TokenLaws all) (n : ℕ) (inner : Inner) 
       let b = bind_ok a.2 in
       let c = bind_ok b.2 in
       let d = bind_ok c.2 in
-      omega (arith, take_falls _ _ _ a.1, laws.exprs.shrinks _ _ _ _ _ _ b.1, token_falls is_colon _ _ _ c.1, laws.stmts.shrinks _ _ _ _ d.1, left_is d.2)
+      omega (
+        arith,
+        take_falls _ _ _ a.1,
+        laws.exprs.shrinks _ _ _ _ _ _ b.1,
+        token_falls is_colon _ _ _ c.1,
+        laws.stmts.shrinks _ _ _ _ d.1,
+        left_is d.2,
+      )
 
   value_shrinks : (keyword : ℕ) (v : Expr) (room : ℕ) → Shrinks (value_behind inner keyword v room)
   unfolding value_behind
@@ -310,7 +359,8 @@ module _ (all : List Lexeme) (tokens : TokenLaws all) (n : ℕ) (inner : Inner) 
       let a = bind_ok r.1 in
       let b = bind_ok a.2 in
       let rest : length x.rest < length b.0.rest = if_ok (is_wide b.0.scopes && is_dots (kind_at b.0.rest)) b.2
-      (λ is e. range_shrinks a.0.tree b.0.tree room b.0.scopes b.0.rest x e) (λ is e. value_shrinks a.0.tree b.0.tree room b.0.scopes b.0.rest x e) in
+      (λ is e. range_shrinks a.0.tree b.0.tree room b.0.scopes b.0.rest x e)
+      (λ is e. value_shrinks a.0.tree b.0.tree room b.0.scopes b.0.rest x e) in
       omega (arith, take_falls _ _ _ a.1, laws.exprs.shrinks _ _ _ _ _ _ b.1, rest)
 
   default_shrinks : (room : ℕ) → Shrinks (default_with inner room)
@@ -328,7 +378,8 @@ module _ (all : List Lexeme) (tokens : TokenLaws all) (n : ℕ) (inner : Inner) 
       if_ok (is_else (kind_at ts)) e (λ is e.
       let a = bind_ok e in
       let b = bind_ok a.2 in
-      omega (arith, take_falls _ _ _ a.1, part_shrinks room a.0.scopes a.0.rest b.0 b.1, left_is b.2)) (λ is e. omega (arith, left_is e))
+      omega (arith, take_falls _ _ _ a.1, part_shrinks room a.0.scopes a.0.rest b.0 b.1, left_is b.2))
+      (λ is e. omega (arith, left_is e))
 
   equal_falls : (a b : ℕ) → a ≡ b → b ≤ a
   equal_falls a b e = omega (arith, e)
@@ -342,7 +393,9 @@ module _ (all : List Lexeme) (tokens : TokenLaws all) (n : ℕ) (inner : Inner) 
       let d = bind_ok c.2 in
       let f = bind_ok d.2 in
       let g = bind_ok f.2 in
-      then_one _ _ _ (then_one _ _ _ (then_fewer _ _ _ (then_one _ _ _ (and_fewer _ _ _ (le_le _ _ _ (equal_falls _ _ (left_is g.2)) (some_else_falls _ _ _ _ g.1)) (part_shrinks (room - 1) d.0.scopes d.0.rest f.0 f.1)) (token_falls is_close_paren _ _ _ d.1))
+      then_one _ _ _ (then_one _ _ _ (then_fewer _ _ _
+      (then_one _ _ _ (and_fewer _ _ _ (le_le _ _ _ (equal_falls _ _ (left_is g.2)) (some_else_falls _ _ _ _ g.1))
+      (part_shrinks (room - 1) d.0.scopes d.0.rest f.0 f.1)) (token_falls is_close_paren _ _ _ d.1))
       (laws.exprs.shrinks _ _ _ _ _ _ c.1)) (token_falls is_open_paren _ _ _ b.1)) (take_falls _ _ _ a.1)
     where
       le_le : (a b c : ℕ) → a ≤ b → b ≤ c → a ≤ c
@@ -356,7 +409,8 @@ module _ (all : List Lexeme) (tokens : TokenLaws all) (n : ℕ) (inner : Inner) 
       let c = bind_ok b.2 in
       let d = bind_ok c.2 in
       let f = bind_ok d.2 in
-      then_one _ _ _ (then_one _ _ _ (then_fewer _ _ _ (then_one _ _ _ (and_fewer _ _ _ (equal_falls _ _ (left_is f.2)) (part_shrinks (room - 1) d.0.scopes d.0.rest f.0 f.1)) (token_falls is_close_paren _ _ _ d.1))
+      then_one _ _ _ (then_one _ _ _ (then_fewer _ _ _ (then_one _ _ _ (and_fewer _ _ _ (equal_falls _ _ (left_is f.2))
+      (part_shrinks (room - 1) d.0.scopes d.0.rest f.0 f.1)) (token_falls is_close_paren _ _ _ d.1))
       (laws.exprs.shrinks _ _ _ _ _ _ c.1)) (token_falls is_open_paren _ _ _ b.1)) (take_falls _ _ _ a.1)
 
   do_shrinks : (room : ℕ) → Shrinks (do_inside inner room)
@@ -369,8 +423,10 @@ module _ (all : List Lexeme) (tokens : TokenLaws all) (n : ℕ) (inner : Inner) 
       let f = bind_ok d.2 in
       let g = bind_ok f.2 in
       let h = bind_ok g.2 in
-      then_one _ _ _ (then_fewer _ _ _ (then_one _ _ _ (then_one _ _ _ (then_fewer _ _ _ (then_one _ _ _ (and_one _ _ _ (equal_falls _ _ (left_is h.2)) (token_falls is_semicolon _ _ _ h.1)) (token_falls is_close_paren _ _ _ g.1))
-      (laws.exprs.shrinks _ _ _ _ _ _ f.1)) (token_falls is_open_paren _ _ _ d.1)) (token_falls is_while _ _ _ c.1)) (part_shrinks (room - 1) a.0.scopes a.0.rest b.0 b.1)) (take_falls _ _ _ a.1)
+      then_one _ _ _ (then_fewer _ _ _ (then_one _ _ _ (then_one _ _ _ (then_fewer _ _ _ (then_one _ _ _ (and_one _ _ _
+      (equal_falls _ _ (left_is h.2)) (token_falls is_semicolon _ _ _ h.1)) (token_falls is_close_paren _ _ _ g.1))
+      (laws.exprs.shrinks _ _ _ _ _ _ f.1)) (token_falls is_open_paren _ _ _ d.1)) (token_falls is_while _ _ _ c.1))
+      (part_shrinks (room - 1) a.0.scopes a.0.rest b.0 b.1)) (take_falls _ _ _ a.1)
 
   start_value_shrinks : (begun : Begun) (room : ℕ) → Shrinks (start_value_with inner begun room)
   unfolding start_value_with
@@ -397,7 +453,8 @@ module _ (all : List Lexeme) (tokens : TokenLaws all) (n : ℕ) (inner : Inner) 
       if_ok (is_extension (kind_at ts)) e (λ is e. extended_start_shrinks room s ts x e) (λ is e.
       if_ok (begins_specs s (kind_at ts)) e (λ is e.
       let a = bind_ok e in
-      omega (arith, declaration_shrinks _ _ _ _ _ a.1, left_is a.2)) (λ is e. start_value_shrinks nothing room s ts x e)))
+      omega (arith, declaration_shrinks _ _ _ _ _ a.1, left_is a.2))
+      (λ is e. start_value_shrinks nothing room s ts x e)))
 
   for_shrinks : (room : ℕ) → Shrinks (for_inside inner room)
   unfolding for_inside
@@ -410,8 +467,11 @@ module _ (all : List Lexeme) (tokens : TokenLaws all) (n : ℕ) (inner : Inner) 
       let g = bind_ok f.2 in
       let h = bind_ok g.2 in
       let i = bind_ok h.2 in
-      then_one _ _ _ (then_one _ _ _ (then_fewer _ _ _ (then_no_more _ _ _ (then_one _ _ _ (then_no_more _ _ _ (then_one _ _ _ (and_fewer _ _ _ (equal_falls _ _ (left_is i.2)) (part_shrinks (room - 1) h.0.scopes h.0.rest i.0 i.1)) (token_falls is_close_paren _ _ _ h.1))
-      (some_expr_falls _ _ _ _ _ g.1)) (token_falls is_semicolon _ _ _ f.1)) (some_expr_falls _ _ _ _ _ d.1)) (for_start_shrinks _ _ _ _ c.1)) (token_falls is_open_paren _ _ _ b.1)) (take_falls _ _ _ a.1)
+      then_one _ _ _ (then_one _ _ _ (then_fewer _ _ _ (then_no_more _ _ _
+      (then_one _ _ _ (then_no_more _ _ _ (then_one _ _ _ (and_fewer _ _ _ (equal_falls _ _ (left_is i.2))
+      (part_shrinks (room - 1) h.0.scopes h.0.rest i.0 i.1)) (token_falls is_close_paren _ _ _ h.1))
+      (some_expr_falls _ _ _ _ _ g.1)) (token_falls is_semicolon _ _ _ f.1)) (some_expr_falls _ _ _ _ _ d.1))
+      (for_start_shrinks _ _ _ _ c.1)) (token_falls is_open_paren _ _ _ b.1)) (take_falls _ _ _ a.1)
 
   goto_value_shrinks : (keyword room : ℕ) → Shrinks (goto_value_with inner keyword room)
   unfolding goto_value_with
@@ -420,7 +480,8 @@ module _ (all : List Lexeme) (tokens : TokenLaws all) (n : ℕ) (inner : Inner) 
       let a = bind_ok r.1 in
       let b = bind_ok a.2 in
       let c = bind_ok b.2 in
-      omega (arith, take_falls _ _ _ a.1, laws.exprs.shrinks _ _ _ _ _ _ b.1, token_falls is_semicolon _ _ _ c.1, left_is c.2)
+      omega
+      (arith, take_falls _ _ _ a.1, laws.exprs.shrinks _ _ _ _ _ _ b.1, token_falls is_semicolon _ _ _ c.1, left_is c.2)
 
   goto_name_shrinks : (keyword : ℕ) → Shrinks (goto_name inner keyword)
   unfolding goto_name
@@ -435,7 +496,8 @@ module _ (all : List Lexeme) (tokens : TokenLaws all) (n : ℕ) (inner : Inner) 
       let r = fits_ok _ _ _ e in
       let a = bind_ok r.1 in
       let rest : length x.rest < length a.0.rest = if_ok (is_wide a.0.scopes && is_star (kind_at a.0.rest)) a.2
-      (λ is e. goto_value_shrinks a.0.tree room a.0.scopes a.0.rest x e) (λ is e. goto_name_shrinks a.0.tree a.0.scopes a.0.rest x e) in
+      (λ is e. goto_value_shrinks a.0.tree room a.0.scopes a.0.rest x e)
+      (λ is e. goto_name_shrinks a.0.tree a.0.scopes a.0.rest x e) in
       omega (arith, take_falls _ _ _ a.1, rest)
 
   jump_shrinks : (make : ℕ → ℕ → Stmt) (room : ℕ) → Shrinks (jump_with inner make room)
@@ -453,7 +515,8 @@ module _ (all : List Lexeme) (tokens : TokenLaws all) (n : ℕ) (inner : Inner) 
       let a = bind_ok r.1 in
       let b = bind_ok a.2 in
       let c = bind_ok b.2 in
-      omega (arith, take_falls _ _ _ a.1, some_expr_falls _ _ _ _ _ b.1, token_falls is_semicolon _ _ _ c.1, left_is c.2)
+      omega
+      (arith, take_falls _ _ _ a.1, some_expr_falls _ _ _ _ _ b.1, token_falls is_semicolon _ _ _ c.1, left_is c.2)
 
   asm_shrinks : (room : ℕ) → Shrinks (asm_with inner room)
   unfolding asm_with
@@ -463,7 +526,14 @@ module _ (all : List Lexeme) (tokens : TokenLaws all) (n : ℕ) (inner : Inner) 
       let b = bind_ok a.2 in
       let c = bind_ok b.2 in
       let d = bind_ok c.2 in
-      omega (arith, take_falls _ _ _ a.1, tokens.asm_words_falls _ _ _ b.1, tokens.group_shrinks _ _ _ c.1, token_falls is_semicolon _ _ _ d.1, left_is d.2)
+      omega (
+        arith,
+        take_falls _ _ _ a.1,
+        tokens.asm_words_falls _ _ _ b.1,
+        tokens.group_shrinks _ _ _ c.1,
+        token_falls is_semicolon _ _ _ d.1,
+        left_is d.2,
+      )
 
   attr_stmt_shrinks : (room : ℕ) → Shrinks (attr_stmt_with inner room)
   unfolding attr_stmt_with
@@ -475,7 +545,8 @@ module _ (all : List Lexeme) (tokens : TokenLaws all) (n : ℕ) (inner : Inner) 
   named_stmt_shrinks : (name room : ℕ) → Shrinks (named_stmt inner name room)
   unfolding named_stmt
   named_stmt_shrinks name room s ts x e =
-      if_ok (is_colon (kind_at (behind_first ts))) (fits_ok _ _ _ e).1 (λ is e. label_stmt_shrinks room s ts x e) (λ is e.
+      if_ok (is_colon (kind_at (behind_first ts))) (fits_ok _ _ _ e).1
+      (λ is e. label_stmt_shrinks room s ts x e) (λ is e.
       if_ok (names_type s name) e (λ is e. absurd cc) (λ is e. expr_stmt_shrinks nothing room s ts x e))
 
   stmt_by_shrinks : (start : StmtStart) (room : ℕ) → Shrinks (stmt_by inner start room)
@@ -491,18 +562,24 @@ module _ (all : List Lexeme) (tokens : TokenLaws all) (n : ℕ) (inner : Inner) 
   stmt_by_shrinks (starts.Name name) room s ts x e = named_stmt_shrinks name room s ts x e
   stmt_by_shrinks starts.Case room s ts x e = case_shrinks room s ts x e
   stmt_by_shrinks starts.Default room s ts x e = default_shrinks room s ts x e
-  stmt_by_shrinks starts.If room s ts x e = in_own_shrinks (if_inside inner room) (if_shrinks room) s ts x (fits_ok _ _ _ e).1
-  stmt_by_shrinks starts.Switch room s ts x e = in_own_shrinks (headed_inside inner switch_stmt room) (headed_shrinks switch_stmt room) s ts x (fits_ok _ _ _ e).1
-  stmt_by_shrinks starts.While room s ts x e = in_own_shrinks (headed_inside inner while_stmt room) (headed_shrinks while_stmt room) s ts x (fits_ok _ _ _ e).1
-  stmt_by_shrinks starts.Do room s ts x e = in_own_shrinks (do_inside inner room) (do_shrinks room) s ts x (fits_ok _ _ _ e).1
-  stmt_by_shrinks starts.For room s ts x e = in_own_shrinks (for_inside inner room) (for_shrinks room) s ts x (fits_ok _ _ _ e).1
+  stmt_by_shrinks starts.If room s ts x e =
+      in_own_shrinks (if_inside inner room) (if_shrinks room) s ts x (fits_ok _ _ _ e).1
+  stmt_by_shrinks starts.Switch room s ts x e =
+      in_own_shrinks (headed_inside inner switch_stmt room) (headed_shrinks switch_stmt room) s ts x (fits_ok _ _ _ e).1
+  stmt_by_shrinks starts.While room s ts x e =
+      in_own_shrinks (headed_inside inner while_stmt room) (headed_shrinks while_stmt room) s ts x (fits_ok _ _ _ e).1
+  stmt_by_shrinks starts.Do room s ts x e =
+      in_own_shrinks (do_inside inner room) (do_shrinks room) s ts x (fits_ok _ _ _ e).1
+  stmt_by_shrinks starts.For room s ts x e =
+      in_own_shrinks (for_inside inner room) (for_shrinks room) s ts x (fits_ok _ _ _ e).1
   stmt_by_shrinks starts.Goto room s ts x e = goto_shrinks room s ts x e
   stmt_by_shrinks starts.Continue room s ts x e = jump_shrinks continue_stmt room s ts x e
   stmt_by_shrinks starts.Break room s ts x e = jump_shrinks break_stmt room s ts x e
   stmt_by_shrinks starts.Return room s ts x e = return_shrinks room s ts x e
   stmt_by_shrinks starts.Asm room s ts x e = asm_shrinks room s ts x e
   stmt_by_shrinks starts.Value room s ts x e =
-      if_ok (begins_expr s (kind_at ts)) e (λ is e. expr_stmt_shrinks nothing room s ts x (fits_ok _ _ _ e).1) (λ is e. absurd cc)
+      if_ok (begins_expr s (kind_at ts)) e (λ is e. expr_stmt_shrinks nothing room s ts x (fits_ok _ _ _ e).1)
+      (λ is e. absurd cc)
 
   pub stmt_shrinks : (room : ℕ) → Shrinks (stmt_with inner room)
   unfolding stmt_with

@@ -16,6 +16,8 @@ use Rattle.c_tree.specs.Height.{expr_height}
 use Rattle.c_tree.specs.Levels.{IsOperator, expr_level, operator_level}
 use Rattle.c_tree.specs.Specifiers.{IsMix, type_count, type_words, basic_types}
 use Rattle.c_tree.specs.WellFormed.{IsExpr, AreSpecWords, IsSpecWord, is_sizeof, is_postfix, IsElementKind}
+use Rattle.c_tree.proofs.NoType.{no_type_of_none}
+use Rattle.c_ops.proofs.Levels.{level_most}
 use Rattle.c_specs.specs.Reading.{append_words}
 use Rattle.c_units.specs.HeldScopes.{HeldScopes}
 use Rattle.c_units.specs.Scoping.{behind, expr_scopes, operator_scopes, spec_words_scopes}
@@ -28,9 +30,7 @@ use Rattle.c_reading.specs.Stating.{stmt_start}
 use Rattle.c_reading.proofs.Forms.{behind_ok}
 use Rattle.c_reading.proofs.Tails.{element_spelled}
 use Rattle.c_reading.proofs.Aims.{least_with, exts_begin, behind_exts, FirstLaws}
-use Rattle.c_reading.proofs.Firsts.{no_type_of_none}
-use Rattle.c_reading.proofs.ExprSoundRows.{expr_high}
-use Rattle.c_reading.proofs.ExprCompleteForms.{operator_twelve}
+use Rattle.c_reading.proofs.SpecsCompleteBodies.{expr_high}
 
 -- a statement that begins as an expression does
 pub expr_starts : (s : HeldScopes) (kind : TokenKind) → begins_expr s kind ≡ true
@@ -78,13 +78,17 @@ lead_exts (operation e op token e2) = lead_exts e
 lead_exts (extension keyword e) = keyword ∷ lead_exts e
 lead_exts e = []
 
+-- an expression begins with the `__extension__` keywords that lead it
 pub lead_begin : (e : Expr) → exts_begin (lead_exts e) e
 lead_begin (operation e op token e2) = lead_begin e
 lead_begin (extension keyword e) = (refl, lead_begin e)
 lead_begin e = tt
 
+-- an expression is at least as high as those that lead it ask for
 pub lead_low : (e : Expr) → least_with (lead_exts e) ≤ expr_height e
-lead_low (operation e op token e2) = let rest : least_with (lead_exts e) ≤ expr_height e = lead_low e in omega (arith, rest)
+lead_low (operation e op token e2) =
+    let rest : least_with (lead_exts e) ≤ expr_height e = lead_low e in
+    omega (arith, rest)
 lead_low (extension keyword e) = let some : 1 ≤ expr_height e = expr_high e in omega (arith, some)
 lead_low e = omega arith
 
@@ -100,12 +104,15 @@ module _ (all : List Lexeme) where
   pub name_no_colon : (e : Expr) (name : ℕ) (k : List Lexeme) → IsExpr all e → is_colon (kind_at k) ≡ false
       → spelled_name (kind_at (expr_text all e k)) ≡ Some name
       → is_colon (kind_at (behind_first (expr_text all e k))) ≡ false
-  name_no_colon (operation e op token e2) name k h c is = name_no_colon e name (operator_text all op token (expr_text all e2 k)) h.0 (operator_next op token (expr_text all e2 k) h.2) is
+  name_no_colon (operation e op token e2) name k h c is =
+      name_no_colon e name (operator_text all op token (expr_text all e2 k)) h.0
+      (operator_next op token (expr_text all e2 k) h.2) is
   name_no_colon (index e opening e2 closing) name k h c is = name_no_colon e name _ h.0 refl is
   name_no_colon (call e opening es closing) name k h c is = name_no_colon e name _ h.0 refl is
   name_no_colon (dot e token member) name k h c is = name_no_colon e name _ h.0 refl is
   name_no_colon (arrow e token member) name k h c is = name_no_colon e name _ h.0 refl is
-  name_no_colon (post e token p) name k h c is = name_no_colon e name (sign_text p token k) h.0 (postfix_no_colon p h.1) is
+  name_no_colon (post e token p) name k h c is =
+      name_no_colon e name (sign_text p token k) h.0 (postfix_no_colon p h.1) is
   name_no_colon (name_use token other) name k h c is = c
   name_no_colon (text_use []) name k h c is = absurd (h refl)
   name_no_colon (text_use (t ∷ ts)) name k h c is = absurd cc
@@ -119,7 +126,7 @@ module _ (all : List Lexeme) where
   lead_text e k = refl
 
   operation_low : (op : Operator) → 13 ≤ operator_level op → ⊥
-  operation_low op h = let most = operator_twelve op in omega (arith, most, h)
+  operation_low op h = let most = level_most op in omega (arith, most, h)
 
   -- a primary expression with its postfix forms begins with no `__extension__`
   primary_no_ext : (e : Expr) (k : List Lexeme) → IsExpr all e → 15 ≤ expr_level e
@@ -175,7 +182,13 @@ module _ (all : List Lexeme) where
 
     pub lead_of : (e : Expr) (s s' : HeldScopes) (k : List Lexeme) → IsExpr all e → expr_scopes e s ≡ Some s'
         → IsLead e s k (lead_exts e)
-    lead_of e s s' k h named = record { same = lead_text e k; begins = lead_begins e s s' k h named; ended = lead_ends e k h; begun = lead_begin e; low = lead_low e }
+    lead_of e s s' k h named = record {
+      same = lead_text e k;
+      begins = lead_begins e s s' k h named;
+      ended = lead_ends e k h;
+      begun = lead_begin e;
+      low = lead_low e;
+    }
 
 -- attributes that words begin with, and the words behind them
 abbrev pub lead_attrs : SpecWords → List Attr
@@ -186,22 +199,26 @@ abbrev pub lead_words : SpecWords → SpecWords
 lead_words (more_words (attribute a) ws) = lead_words ws
 lead_words ws = ws
 
+-- the attributes that lead words, followed by the rest, are the words
 pub lead_is : (ws : SpecWords) → append_words (words_of_attrs (lead_attrs ws)) (lead_words ws) ≡ ws
 lead_is no_words = refl
 lead_is (more_words (attribute a) ws) = ap (more_words (attribute a)) (lead_is ws)
 lead_is (more_words w ws) = refl
 
+-- words are spelled as the attributes that lead them, then the rest
 pub lead_words_text : (all : List Lexeme) (ws : SpecWords) (k : List Lexeme)
     → spec_words_text all ws k ≡ attrs_text all (lead_attrs ws) (spec_words_text all (lead_words ws) k)
 lead_words_text all no_words k = refl
 lead_words_text all (more_words (attribute a) ws) k = ap (attr_text all a) (lead_words_text all ws k)
 lead_words_text all (more_words w ws) k = refl
 
+-- the rest of well-formed words behind their leading attributes is well formed
 pub lead_words_fit : (all : List Lexeme) (ws : SpecWords) → AreSpecWords all ws → AreSpecWords all (lead_words ws)
 lead_words_fit all no_words h = h
 lead_words_fit all (more_words (attribute a) ws) h = lead_words_fit all ws h.1
 lead_words_fit all (more_words w ws) h = h
 
+-- words give the scopes that they give without their leading attributes
 pub lead_words_named : (ws : SpecWords) (s : HeldScopes) → spec_words_scopes (lead_words ws) s ≡ spec_words_scopes ws s
 lead_words_named no_words s = refl
 lead_words_named (more_words (attribute a) ws) s = lead_words_named ws s
@@ -213,14 +230,18 @@ attrs_no_type [] = (refl, refl)
 attrs_no_type (a ∷ attrs) = attrs_no_type attrs
 
 pub attrs_no_mix : (attrs : List Attr) → IsMix (words_of_attrs attrs) → ⊥
-attrs_no_mix attrs (inl one, stores) = no_type_of_none (subst (λ (ws : List Keyword). Any (IsPermutation ws) basic_types) (attrs_no_type attrs).1 one.1)
-attrs_no_mix attrs (inr one, stores) = let zero_is_one : 0 ≡ 1 = sym (attrs_no_type attrs).0 ∙ one.0 in omega (arith, zero_is_one)
+attrs_no_mix attrs (inl one, stores) =
+    no_type_of_none (subst (λ (ws : List Keyword). Any (IsPermutation ws) basic_types) (attrs_no_type attrs).1 one.1)
+attrs_no_mix attrs (inr one, stores) =
+    let zero_is_one : 0 ≡ 1 = sym (attrs_no_type attrs).0 ∙ one.0 in
+    omega (arith, zero_is_one)
 
 -- the first token of a word is no colon
 element_no_colon : (kind : TokenKind) → IsElementKind kind → is_colon kind ≡ false
 element_no_colon (kinds.Punct puncts.Colon) h = absurd h
 element_no_colon kind h = refl
 
+-- no well-formed specifier begins with a colon
 pub word_no_colon : (all : List Lexeme) → IsNumbered all → (w : SpecWord) (k : List Lexeme) → IsSpecWord all w
     → is_colon (kind_at (spec_word_text all w k)) ≡ false
 word_no_colon all numbered (qualifier (quals.Element token)) k h =

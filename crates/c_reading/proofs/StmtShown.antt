@@ -15,7 +15,8 @@ use Rattle.c_reading.proofs.StmtComplete.{block_read, stmt_read}
 within : (room n : ℕ) → room < suc n → room ≤ n
 within room n h = omega (arith, h)
 
-module _ (all : List Lexeme) (numbered : IsNumbered all) (tokens : TokenLaws all) (firsts : FirstLaws all) (n : ℕ) (inner : Inner) (laws : Laws all n inner) where
+module _ (all : List Lexeme) (numbered : IsNumbered all) (tokens : TokenLaws all) (firsts : FirstLaws all) (n : ℕ)
+    (inner : Inner) (laws : Laws all n inner) where
   pub block_laws : (whole_are : WholeAreMixes) (goes : MixesGoOn) → BlockLaws all (suc n) (block_with inner)
   block_laws whole_are goes = record {
     shrinks = block_shrinks all tokens n inner laws;

@@ -42,7 +42,8 @@ module _ (all : List Lexeme) where
         let next : u.at ≡ suc t.at = number_next t u ts h in
         let before : t.at ≡ u.at - 1 = omega (arith, next) in
         let same : t ≡ record { kind = kinds.Punct Comma; at = u.at - 1 } =
-        ap (λ (kind : TokenKind). record { kind = kind; at = t.at }) is ∙ ap (λ (n : ℕ). record { kind = kinds.Punct Comma; at = n }) before in
+        ap (λ (kind : TokenKind). record { kind = kind; at = t.at }) is
+        ∙ ap (λ (n : ℕ). record { kind = kinds.Punct Comma; at = n }) before in
         ap (λ (t : Lexeme). t ∷ u ∷ ts) same
 
     -- the tokens from the number of a token to this number are that token
@@ -53,7 +54,9 @@ module _ (all : List Lexeme) where
         one_is n = omega arith
 
         by_number : (n : ℕ) → n ≡ h.0 → tokens_between all n n ≡ t ∷ []
-        by_number n is = ap (λ (m : ℕ). take (n + 1 - n) (drop m all)) is ∙ ap (λ (us : List Lexeme). take (n + 1 - n) us) (sym h.1) ∙ ap (λ (m : ℕ). take m (t ∷ ts)) (one_is n)
+        by_number n is =
+            ap (λ (m : ℕ). take (n + 1 - n) (drop m all)) is ∙ ap (λ (us : List Lexeme). take (n + 1 - n) us) (sym h.1)
+            ∙ ap (λ (m : ℕ). take m (t ∷ ts)) (one_is n)
 
     -- a word that names an element is one token, with its number
     pub element_spelled : (token : ℕ) → IsElement (tokens_between all token token)

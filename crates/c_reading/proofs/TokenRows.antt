@@ -2,6 +2,7 @@
 use Rattle.std.proofs.Common.{◌≡◌, ℕ, ◌<◌, ◌≤◌, Bool, true, false, if◌then◌else◌, List, [], ◌∷◌, ◌++◌, length, Option, Some, None, refl, sym, ◌∙◌, ap, subst, arith}
 use Rattle.std.specs.Prelude.{All, not}
 use Rattle.std.proofs.lemmas.List.Elements.{All-nil, All-cons, All-head, All-tail}
+use Rattle.std.proofs.lemmas.Bool.{not-true}
 use Rattle.c_words.specs.declared.kinds.TokenKind.{TokenKind}
 use Rattle.c_words.specs.declared.kinds.TokenKind.TheVariants as kinds
 use Rattle.c_words.specs.declared.kinds.Keyword.{Keyword}
@@ -28,18 +29,23 @@ use Rattle.c_reading.proofs.Rows.{row_form, row_text, AllFit, row_scopes, row_he
 
 -- what is read of an item whose first token passed the test
 abbrev pub IsSoundWhere : List Lexeme → {T : Type 0} → (TokenKind → Bool) → Form T → ℕ → Reader T → Type 0
-IsSoundWhere all {T} begins form room read = (s : HeldScopes) (ts : List Lexeme) (x : Found T) → IsTail all ts → begins (kind_at ts) ≡ true → read s ts ≡ done x → Takes all form room s ts x
+IsSoundWhere all {T} begins form room read =
+    (s : HeldScopes) (ts : List Lexeme) (x : Found T) → IsTail all ts → begins (kind_at ts) ≡ true → read s ts ≡ done x
+    → Takes all form room s ts x
 
 module _ {T : Type 0} (begins : TokenKind → Bool) (read : Reader T) where
   -- what one turn read, and that its first token passed the test
   turn_where : (xs : List T) (s : HeldScopes) (ts : List Lexeme) (x : Found (List T))
       → repeated_turn begins read xs s ts ≡ Some (done x) →
-      (begins (kind_at ts) ≡ true) × (y : Found T) × (read s ts ≡ done y) × (found (xs ++ y.tree ∷ []) y.scopes y.rest ≡ x)
+      (begins (kind_at ts) ≡ true) × (y : Found T) × (read s ts ≡ done y)
+      × (found (xs ++ y.tree ∷ []) y.scopes y.rest ≡ x)
   turn_where xs s ts x e = by_test (begins (kind_at ts)) refl e
     where
       by_test : (b : Bool) → begins (kind_at ts) ≡ b
-          → (if b then Some (and_then (read s ts) (λ y. ends (xs ++ y.tree ∷ []) y.scopes y.rest)) else None) ≡ Some (done x) →
-          (begins (kind_at ts) ≡ true) × (y : Found T) × (read s ts ≡ done y) × (found (xs ++ y.tree ∷ []) y.scopes y.rest ≡ x)
+          → (if b then Some (and_then (read s ts) (λ y. ends (xs ++ y.tree ∷ []) y.scopes y.rest)) else None)
+          ≡ Some (done x) →
+          (begins (kind_at ts) ≡ true) × (y : Found T) × (read s ts ≡ done y)
+          × (found (xs ++ y.tree ∷ []) y.scopes y.rest ≡ x)
       by_test false is e = absurd cc
       by_test true is e =
           let e' : and_then (read s ts) (λ y. ends (xs ++ y.tree ∷ []) y.scopes y.rest) ≡ done x = cc in
@@ -56,7 +62,8 @@ module _ {T : Type 0} (begins : TokenKind → Bool) (read : Reader T) where
         → IsSound all (row_form form) room (repeated begins read)
     unfolding repeated
     repeated_sound_where sound s ts x tail e =
-        run-keep (repeated_turn begins read) (λ xs t k. Takes all (row_form form) room s ts (found xs t k)) step [] s ts x
+        run-keep (repeated_turn begins read)
+        (λ xs t k. Takes all (row_form form) room s ts (found xs t k)) step [] s ts x
         (record { spelled = refl; fits = tt; named = refl; low = omega arith; left = tail }) e
       where
         step : (xs : List T) (t : HeldScopes) (k : List Lexeme) (x : Found (List T))
@@ -82,6 +89,7 @@ pub record Same {T : Type 0} (f g : Form T) : Type 0 where
   pub lower : (x : T) (room : ℕ) → f.height x ≤ room → g.height x ≤ room
   pub higher : (x : T) (room : ℕ) → g.height x ≤ room → f.height x ≤ room
 
+-- a reader that is sound for one form of trees is so for one that says the same
 pub sound_as : (all : List Lexeme) {T : Type 0} (f g : Form T) → Same f g → (room : ℕ) (read : Reader T)
     → IsSound all f room read → IsSound all g room read
 sound_as all f g same room read sound s ts x tail e =
@@ -97,22 +105,21 @@ sound_as all f g same room read sound s ts x tail e =
 -- a row of tokens that change no scope, before a token that begins none
 pub row_complete : {T : Type 0} (begins : TokenKind → Bool) (read : Reader T) (item : Form T) (form : Form (List T))
     → Same (row_form item) form → (room : ℕ) → Shrinks read →
-    ((x : T) (s : HeldScopes) (k : List Lexeme) → item.Fits x → item.height x ≤ room → read s (item.text x k) ≡ done (found x s k)) →
+    ((x : T) (s : HeldScopes) (k : List Lexeme) → item.Fits x → item.height x ≤ room
+    → read s (item.text x k) ≡ done (found x s k)) →
     ((x : T) (s : HeldScopes) → item.scopes x s ≡ Some s) →
     ((x : T) (k : List Lexeme) → item.Fits x → begins (kind_at (item.text x k)) ≡ true) →
     IsComplete form (λ xs kind. not (begins kind)) room (repeated begins read)
 row_complete {T} begins read item form same room shrinks complete flat starts xs s s' k h n l ended =
     ap (λ (ts : List Lexeme). repeated begins read s ts) (sym (same.text xs k)) ∙
     repeated_complete begins read item (λ x kind. true) room shrinks
-    (λ x s t k f n l e. complete x s k f l ∙ ap (λ (t : HeldScopes). done (found x t k)) (some_is s t (sym (flat x s) ∙ n)))
-    (λ x s t k f n. starts x k f) (λ x kind e. refl) xs s s' k (same.back xs h) (same.scopes xs s ∙ n) (same.higher xs room l) (no_is (begins (kind_at k)) ended) (λ x. refl)
+    (λ x s t k f n l e. complete x s k f l
+    ∙ ap (λ (t : HeldScopes). done (found x t k)) (some_is s t (sym (flat x s) ∙ n)))
+    (λ x s t k f n. starts x k f) (λ x kind e. refl) xs s s' k (same.back xs h) (same.scopes xs s ∙ n)
+    (same.higher xs room l) (not-true (begins (kind_at k)) ended) (λ x. refl)
   where
     some_is : (s t : HeldScopes) → Some s ≡ Some t → s ≡ t
     some_is s t e = cc
-
-    no_is : (b : Bool) → not b ≡ true → b ≡ false
-    no_is true e = absurd cc
-    no_is false e = refl
 
 static_kind : (kind : TokenKind) → is_static kind ≡ true → kind ≡ kinds.Keyword keywords.Static
 static_kind (kinds.Keyword keywords.Static) e = refl
@@ -120,6 +127,7 @@ static_kind kind e = absurd cc
 
 -- one token as what it may be
 
+-- a reader that makes something of one token takes it
 pub made_shrinks : {A : Type 0} (of : TokenKind → Option (ℕ → A)) → Shrinks (made_at of)
 made_shrinks of s [] x e = absurd cc
 made_shrinks {A} of s (t ∷ ts) x e = by_made (of t.kind) e
@@ -131,7 +139,8 @@ made_shrinks {A} of s (t ∷ ts) x e = by_made (of t.kind) e
 -- what is taken, where the test of a kind says what its token spells and what it obeys
 pub made_sound : (all : List Lexeme) {A : Type 0} (of : TokenKind → Option (ℕ → A)) (form : Form A) (room : ℕ) →
     ((x : A) (s : HeldScopes) → form.scopes x s ≡ Some s) → ((x : A) → form.height x ≤ room) →
-    ((t : Lexeme) (ts : List Lexeme) (make : ℕ → A) → IsTail all (t ∷ ts) → of t.kind ≡ Some make → (t ∷ ts ≡ form.text (make t.at) ts) × form.Fits (make t.at)) →
+    ((t : Lexeme) (ts : List Lexeme) (make : ℕ → A) → IsTail all (t ∷ ts) → of t.kind ≡ Some make
+    → (t ∷ ts ≡ form.text (make t.at) ts) × form.Fits (make t.at)) →
     IsSound all form room (made_at of)
 made_sound all of form room flat low spells s [] x tail e = absurd cc
 made_sound all {A} of form room flat low spells s (t ∷ ts) x tail e = by_made (of t.kind) refl e
@@ -140,9 +149,16 @@ made_sound all {A} of form room flat low spells s (t ∷ ts) x tail e = by_made 
     by_made None is e = absurd cc
     by_made (Some make) is e =
         let p = spells t ts make tail is in
-        at_end (Takes all form room s (t ∷ ts)) e (record { spelled = p.0; fits = p.1; named = flat (make t.at) s; low = low (make t.at); left = tail_of all t ts tail })
+        at_end (Takes all form room s (t ∷ ts)) e (record {
+          spelled = p.0;
+          fits = p.1;
+          named = flat (make t.at) s;
+          low = low (make t.at);
+          left = tail_of all t ts tail;
+        })
 
-pub made_is : {A : Type 0} (of : TokenKind → Option (ℕ → A)) (make : ℕ → A) (kind : TokenKind) (token : ℕ) (s : HeldScopes) (k : List Lexeme)
+pub made_is : {A : Type 0} (of : TokenKind → Option (ℕ → A)) (make : ℕ → A) (kind : TokenKind) (token : ℕ)
+    (s : HeldScopes) (k : List Lexeme)
     → of kind ≡ Some make →
     made_at of s (plain_text kind token k) ≡ done (found (make token) s k)
 made_is of make kind token s k is = rw is refl
@@ -150,10 +166,20 @@ made_is of make kind token s k is = rw is refl
 -- the rows
 
 abbrev pub ext_item : Form ℕ
-ext_item = record { text = λ token k. keyword_text keywords.Extension token k; Fits = λ token. Unit {0}; scopes = λ token s. Some s; height = λ token. 2 }
+ext_item = record {
+  text = λ token k. keyword_text keywords.Extension token k;
+  Fits = λ token. Unit {0};
+  scopes = λ token s. Some s;
+  height = λ token. 2;
+}
 
 abbrev pub text_item : Form ℕ
-text_item = record { text = λ token k. plain_text kinds.Text token k; Fits = λ token. Unit {0}; scopes = λ token s. Some s; height = λ token. 0 }
+text_item = record {
+  text = λ token k. plain_text kinds.Text token k;
+  Fits = λ token. Unit {0};
+  scopes = λ token s. Some s;
+  height = λ token. 0;
+}
 
 ext_text : (xs : List ℕ) (k : List Lexeme) → row_text ext_item xs k ≡ extensions_text xs k
 ext_text [] k = refl
@@ -167,12 +193,15 @@ text_text (x ∷ xs) k = ap (λ (ts : List Lexeme). plain_text kinds.Text x ts) 
 pub flat_scopes : {T : Type 0} (item : Form T) → ((x : T) (s : HeldScopes) → item.scopes x s ≡ Some s)
     → (xs : List T) (s : HeldScopes) → row_scopes item xs s ≡ Some s
 flat_scopes item flat [] s = refl
-flat_scopes item flat (x ∷ xs) s = ap (λ (r : Option HeldScopes). behind r (row_scopes item xs)) (flat x s) ∙ flat_scopes item flat xs s
+flat_scopes item flat (x ∷ xs) s =
+    ap (λ (r : Option HeldScopes). behind r (row_scopes item xs)) (flat x s) ∙ flat_scopes item flat xs s
 
 pub low_row : {T : Type 0} (item : Form T) (room : ℕ) → ((x : T) → item.height x ≤ room) → (xs : List T)
     → row_height item xs ≤ room
 low_row item room low [] = omega arith
-low_row item room low (x ∷ xs) = let rest : row_height item xs ≤ room = low_row item room low xs in omega (arith, low x, rest)
+low_row item room low (x ∷ xs) =
+    let rest : row_height item xs ≤ room = low_row item room low xs in
+    omega (arith, low x, rest)
 
 pub fit_all : {T : Type 0} (item : Form T) (P : T → Type 0) → ((x : T) → item.Fits x → P x) → (xs : List T)
     → AllFit item xs → All P xs
@@ -239,12 +268,15 @@ module _ (all : List Lexeme) where
 
   pub exts_sound : (room : ℕ) → IsSound all (exts_form all) room (extensions_at room)
   unfolding extensions_at
-  exts_sound room = sound_as all (row_form ext_item) (exts_form all) exts_same room (repeated is_extension (ext_read room)) (repeated_sound_where is_extension (ext_read room) all ext_item room (ext_sound room))
+  exts_sound room =
+      sound_as all (row_form ext_item) (exts_form all) exts_same room (repeated is_extension (ext_read room))
+      (repeated_sound_where is_extension (ext_read room) all ext_item room (ext_sound room))
 
   pub exts_complete : (room : ℕ)
       → IsComplete (exts_form all) (λ xs kind. not (is_extension kind)) room (extensions_at room)
   unfolding extensions_at
-  exts_complete room = row_complete is_extension (ext_read room) ext_item (exts_form all) exts_same room (ext_shrinks room)
+  exts_complete room =
+      row_complete is_extension (ext_read room) ext_item (exts_form all) exts_same room (ext_shrinks room)
       (λ x s k f l. fits_is 2 room _ _ l) (λ x s. refl) (λ x k f. refl)
 
   take_shrinks : Shrinks take_one
@@ -261,11 +293,15 @@ module _ (all : List Lexeme) where
 
   pub texts_sound : (room : ℕ) → IsSound all (texts_form all) room texts_at
   unfolding texts_at
-  texts_sound room = sound_as all (row_form text_item) (texts_form all) texts_same room (repeated is_text take_one) (repeated_sound_where is_text take_one all text_item room (text_sound room))
+  texts_sound room =
+      sound_as all (row_form text_item) (texts_form all) texts_same room (repeated is_text take_one)
+      (repeated_sound_where is_text take_one all text_item room (text_sound room))
 
   pub texts_complete : (room : ℕ) → IsComplete (texts_form all) (λ xs kind. not (is_text kind)) room texts_at
   unfolding texts_at
-  texts_complete room = row_complete is_text take_one text_item (texts_form all) texts_same room take_shrinks (λ x s k f l. refl) (λ x s. refl) (λ x k f. refl)
+  texts_complete room =
+      row_complete is_text take_one text_item (texts_form all) texts_same room take_shrinks (λ x s k f l. refl)
+      (λ x s. refl) (λ x k f. refl)
 
   -- qualifiers
 
@@ -284,7 +320,8 @@ module _ (all : List Lexeme) where
       array_word_text (array_words.Qual q) k = qual_text all q k
 
   abbrev pub asm_item : Form Word
-  asm_item = record { text = word_text; Fits = λ w. is_asm_word w.keyword ≡ true; scopes = λ w s. Some s; height = λ w. 0 }
+  asm_item =
+      record { text = word_text; Fits = λ w. is_asm_word w.keyword ≡ true; scopes = λ w s. Some s; height = λ w. 0 }
 
   qual_row : (xs : List Qual) (k : List Lexeme) → row_text word_item xs k ≡ quals_text all xs k
   qual_row [] k = refl
@@ -292,7 +329,8 @@ module _ (all : List Lexeme) where
 
   array_row : (xs : List ArrayWord) (k : List Lexeme) → row_text array_item xs k ≡ array_words_text all xs k
   array_row [] k = refl
-  array_row (array_words.Static token ∷ xs) k = ap (λ (ts : List Lexeme). keyword_text keywords.Static token ts) (array_row xs k)
+  array_row (array_words.Static token ∷ xs) k =
+      ap (λ (ts : List Lexeme). keyword_text keywords.Static token ts) (array_row xs k)
   array_row (array_words.Qual q ∷ xs) k = ap (qual_text all q) (array_row xs k)
 
   asm_row : (xs : List Word) (k : List Lexeme) → row_text asm_item xs k ≡ words_text xs k
@@ -338,12 +376,18 @@ module _ (all : List Lexeme) where
   module _ (numbered : IsNumbered all) where
     qual_by_kind : (kind : TokenKind) (n : ℕ) (ts : List Lexeme) (make : ℕ → Qual)
         → IsTail all (record { kind = kind; at = n } ∷ ts) → qual_of kind ≡ Some make → Says n ts kind make
-    qual_by_kind (kinds.Keyword keywords.Const) n ts make tail e = subst (Says n ts (kinds.Keyword keywords.Const)) (make_is e) (refl, refl)
-    qual_by_kind (kinds.Keyword keywords.Volatile) n ts make tail e = subst (Says n ts (kinds.Keyword keywords.Volatile)) (make_is e) (refl, refl)
-    qual_by_kind (kinds.Keyword keywords.Restrict) n ts make tail e = subst (Says n ts (kinds.Keyword keywords.Restrict)) (make_is e) (refl, refl)
-    qual_by_kind (kinds.Keyword keywords.Atomic) n ts make tail e = subst (Says n ts (kinds.Keyword keywords.Atomic)) (make_is e) (refl, refl)
-    qual_by_kind (kinds.Keyword keywords.AtomicType) n ts make tail e = subst (Says n ts (kinds.Keyword keywords.AtomicType)) (make_is e) (refl, refl)
-    qual_by_kind (kinds.Keyword keywords.Seg) n ts make tail e = subst (Says n ts (kinds.Keyword keywords.Seg)) (make_is e) (refl, refl)
+    qual_by_kind (kinds.Keyword keywords.Const) n ts make tail e =
+        subst (Says n ts (kinds.Keyword keywords.Const)) (make_is e) (refl, refl)
+    qual_by_kind (kinds.Keyword keywords.Volatile) n ts make tail e =
+        subst (Says n ts (kinds.Keyword keywords.Volatile)) (make_is e) (refl, refl)
+    qual_by_kind (kinds.Keyword keywords.Restrict) n ts make tail e =
+        subst (Says n ts (kinds.Keyword keywords.Restrict)) (make_is e) (refl, refl)
+    qual_by_kind (kinds.Keyword keywords.Atomic) n ts make tail e =
+        subst (Says n ts (kinds.Keyword keywords.Atomic)) (make_is e) (refl, refl)
+    qual_by_kind (kinds.Keyword keywords.AtomicType) n ts make tail e =
+        subst (Says n ts (kinds.Keyword keywords.AtomicType)) (make_is e) (refl, refl)
+    qual_by_kind (kinds.Keyword keywords.Seg) n ts make tail e =
+        subst (Says n ts (kinds.Keyword keywords.Seg)) (make_is e) (refl, refl)
     qual_by_kind (kinds.Qual lattice elem) n ts make tail e =
         let is = element_is all numbered (record { kind = kinds.Qual lattice elem; at = n }) ts tail in
         subst (Says n ts (kinds.Qual lattice elem)) (make_is e)
@@ -366,12 +410,18 @@ module _ (all : List Lexeme) where
 
     word_plain : (kind : TokenKind) (n : ℕ) (make : ℕ → Qual) → word_qual_of kind ≡ Some make
         → is_word_qual (make n) ≡ true
-    word_plain (kinds.Keyword keywords.Const) n make e = subst (λ (make : ℕ → Qual). is_word_qual (make n) ≡ true) (make_is e) refl
-    word_plain (kinds.Keyword keywords.Volatile) n make e = subst (λ (make : ℕ → Qual). is_word_qual (make n) ≡ true) (make_is e) refl
-    word_plain (kinds.Keyword keywords.Restrict) n make e = subst (λ (make : ℕ → Qual). is_word_qual (make n) ≡ true) (make_is e) refl
-    word_plain (kinds.Keyword keywords.Atomic) n make e = subst (λ (make : ℕ → Qual). is_word_qual (make n) ≡ true) (make_is e) refl
-    word_plain (kinds.Keyword keywords.Seg) n make e = subst (λ (make : ℕ → Qual). is_word_qual (make n) ≡ true) (make_is e) refl
-    word_plain (kinds.Qual lattice elem) n make e = subst (λ (make : ℕ → Qual). is_word_qual (make n) ≡ true) (make_is e) refl
+    word_plain (kinds.Keyword keywords.Const) n make e =
+        subst (λ (make : ℕ → Qual). is_word_qual (make n) ≡ true) (make_is e) refl
+    word_plain (kinds.Keyword keywords.Volatile) n make e =
+        subst (λ (make : ℕ → Qual). is_word_qual (make n) ≡ true) (make_is e) refl
+    word_plain (kinds.Keyword keywords.Restrict) n make e =
+        subst (λ (make : ℕ → Qual). is_word_qual (make n) ≡ true) (make_is e) refl
+    word_plain (kinds.Keyword keywords.Atomic) n make e =
+        subst (λ (make : ℕ → Qual). is_word_qual (make n) ≡ true) (make_is e) refl
+    word_plain (kinds.Keyword keywords.Seg) n make e =
+        subst (λ (make : ℕ → Qual). is_word_qual (make n) ≡ true) (make_is e) refl
+    word_plain (kinds.Qual lattice elem) n make e =
+        subst (λ (make : ℕ → Qual). is_word_qual (make n) ≡ true) (make_is e) refl
     word_plain kinds.Index n make e = subst (λ (make : ℕ → Qual). is_word_qual (make n) ≡ true) (make_is e) refl
     word_plain kind n make e = absurd cc
 
@@ -387,12 +437,16 @@ module _ (all : List Lexeme) where
 
     pub quals_falls : Falls quals_at
     unfolding quals_at
-    quals_falls s ts x e = repeated_falls (λ kind. is_made (word_qual_of kind)) (made_at word_qual_of) (made_shrinks word_qual_of) s ts x e
+    quals_falls s ts x e =
+        repeated_falls (λ kind. is_made (word_qual_of kind)) (made_at word_qual_of) (made_shrinks word_qual_of) s ts x e
 
     pub quals_sound : (room : ℕ) → IsSound all (quals_form all) room quals_at
     unfolding quals_at
-    quals_sound room = sound_as all (row_form word_item) (quals_form all) quals_same room (repeated (λ kind. is_made (word_qual_of kind)) (made_at word_qual_of))
-        (repeated_sound (λ kind. is_made (word_qual_of kind)) (made_at word_qual_of) all word_item room (word_sound room))
+    quals_sound room =
+        sound_as all (row_form word_item) (quals_form all) quals_same room
+        (repeated (λ kind. is_made (word_qual_of kind)) (made_at word_qual_of))
+        (repeated_sound (λ kind. is_made (word_qual_of kind)) (made_at word_qual_of) all word_item room
+        (word_sound room))
 
     -- the first token of a qualifier, as what it is
     pub record QualToken (q : Qual) (k : List Lexeme) : Type 0 where
@@ -405,18 +459,69 @@ module _ (all : List Lexeme) where
 
     word_token : (keyword : Keyword) (token : ℕ) (k : List Lexeme) → is_qual keyword ≡ true
         → QualToken (quals.Word (word_of keyword token)) k
-    word_token keywords.Const token k h = record { kind = kinds.Keyword keywords.Const; token = token; make = λ n. quals.Word (word_of keywords.Const n); is = refl; text = refl; made = refl }
-    word_token keywords.Volatile token k h = record { kind = kinds.Keyword keywords.Volatile; token = token; make = λ n. quals.Word (word_of keywords.Volatile n); is = refl; text = refl; made = refl }
-    word_token keywords.Restrict token k h = record { kind = kinds.Keyword keywords.Restrict; token = token; make = λ n. quals.Word (word_of keywords.Restrict n); is = refl; text = refl; made = refl }
-    word_token keywords.Atomic token k h = record { kind = kinds.Keyword keywords.Atomic; token = token; make = λ n. quals.Word (word_of keywords.Atomic n); is = refl; text = refl; made = refl }
+    word_token keywords.Const token k h = record {
+      kind = kinds.Keyword keywords.Const;
+      token = token;
+      make = λ n. quals.Word (word_of keywords.Const n);
+      is = refl;
+      text = refl;
+      made = refl;
+    }
+    word_token keywords.Volatile token k h = record {
+      kind = kinds.Keyword keywords.Volatile;
+      token = token;
+      make = λ n. quals.Word (word_of keywords.Volatile n);
+      is = refl;
+      text = refl;
+      made = refl;
+    }
+    word_token keywords.Restrict token k h = record {
+      kind = kinds.Keyword keywords.Restrict;
+      token = token;
+      make = λ n. quals.Word (word_of keywords.Restrict n);
+      is = refl;
+      text = refl;
+      made = refl;
+    }
+    word_token keywords.Atomic token k h = record {
+      kind = kinds.Keyword keywords.Atomic;
+      token = token;
+      make = λ n. quals.Word (word_of keywords.Atomic n);
+      is = refl;
+      text = refl;
+      made = refl;
+    }
     word_token keywords.AtomicType token k h =
-        record { kind = kinds.Keyword keywords.AtomicType; token = token; make = λ n. quals.Word (word_of keywords.AtomicType n); is = refl; text = refl; made = refl }
-    word_token keywords.Seg token k h = record { kind = kinds.Keyword keywords.Seg; token = token; make = λ n. quals.Word (word_of keywords.Seg n); is = refl; text = refl; made = refl }
+        record {
+          kind = kinds.Keyword keywords.AtomicType;
+          token = token;
+          make = λ n. quals.Word (word_of keywords.AtomicType n);
+          is = refl;
+          text = refl;
+          made = refl;
+        }
+    word_token keywords.Seg token k h = record {
+      kind = kinds.Keyword keywords.Seg;
+      token = token;
+      make = λ n. quals.Word (word_of keywords.Seg n);
+      is = refl;
+      text = refl;
+      made = refl;
+    }
     word_token keyword token k h = absurd cc
 
-    element_token : (kind : TokenKind) (n token : ℕ) (k : List Lexeme) → IsElementKind kind → tokens_between all token token ≡ record { kind = kind; at = n } ∷ [] → n ≡ token → QualToken (quals.Element token) k
+    element_token : (kind : TokenKind) (n token : ℕ) (k : List Lexeme) → IsElementKind kind
+        → tokens_between all token token ≡ record { kind = kind; at = n } ∷ [] → n ≡ token
+        → QualToken (quals.Element token) k
     element_token (kinds.Qual lattice elem) n token k h is same =
-        record { kind = kinds.Qual lattice elem; token = n; make = quals.Element; is = refl; text = ap (λ (us : List Lexeme). us ++ k) is; made = ap quals.Element same }
+        record {
+          kind = kinds.Qual lattice elem;
+          token = n;
+          make = quals.Element;
+          is = refl;
+          text = ap (λ (us : List Lexeme). us ++ k) is;
+          made = ap quals.Element same;
+        }
     element_token kind n token k h is same = absurd h
 
     pub qual_token : (q : Qual) (k : List Lexeme) → IsQual all q → QualToken q k
@@ -424,13 +529,15 @@ module _ (all : List Lexeme) where
     qual_token (quals.Element token) k h =
         let p = element_spelled all numbered token h in
         element_token p.0.kind p.0.at token k p.3 p.1 p.2
-    qual_token (quals.Index token) k h = record { kind = kinds.Index; token = token; make = quals.Index; is = refl; text = refl; made = refl }
+    qual_token (quals.Index token) k h =
+        record { kind = kinds.Index; token = token; make = quals.Index; is = refl; text = refl; made = refl }
 
     pub qual_read : (q : Qual) (s : HeldScopes) (k : List Lexeme) → IsQual all q
         → made_at qual_of s (qual_text all q k) ≡ done (found q s k)
     qual_read q s k h =
         let t = qual_token q k h in
-        ap (λ (ts : List Lexeme). made_at qual_of s ts) t.text ∙ made_is qual_of t.make t.kind t.token s k t.is ∙ ap (λ (q : Qual). done (found q s k)) t.made
+        ap (λ (ts : List Lexeme). made_at qual_of s ts) t.text ∙ made_is qual_of t.make t.kind t.token s k t.is
+        ∙ ap (λ (q : Qual). done (found q s k)) t.made
 
     some_made : {A : Type 0} (of : TokenKind → Option (ℕ → A)) (kind : TokenKind) (make : ℕ → A) → of kind ≡ Some make
         → is_made (of kind) ≡ true
@@ -455,19 +562,23 @@ module _ (all : List Lexeme) where
         → made_at word_qual_of s (qual_text all q k) ≡ done (found q s k)
     word_read q s k h =
         let t = qual_token q k h.0 in
-        ap (λ (ts : List Lexeme). made_at word_qual_of s ts) t.text ∙ made_is word_qual_of t.make t.kind t.token s k (word_from t.kind t.make t.token q t.is t.made h.1) ∙
+        ap (λ (ts : List Lexeme). made_at word_qual_of s ts) t.text
+        ∙ made_is word_qual_of t.make t.kind t.token s k (word_from t.kind t.make t.token q t.is t.made h.1) ∙
         ap (λ (q : Qual). done (found q s k)) t.made
 
     word_starts : (q : Qual) (k : List Lexeme) → IsWordQual all q
         → is_made (word_qual_of (kind_at (qual_text all q k))) ≡ true
     word_starts q k h =
         let t = qual_token q k h.0 in
-        ap (λ (ts : List Lexeme). is_made (word_qual_of (kind_at ts))) t.text ∙ some_made word_qual_of t.kind t.make (word_from t.kind t.make t.token q t.is t.made h.1)
+        ap (λ (ts : List Lexeme). is_made (word_qual_of (kind_at ts))) t.text
+        ∙ some_made word_qual_of t.kind t.make (word_from t.kind t.make t.token q t.is t.made h.1)
 
     pub quals_complete : (room : ℕ)
         → IsComplete (quals_form all) (λ xs kind. not (is_made (word_qual_of kind))) room quals_at
     unfolding quals_at
-    quals_complete room = row_complete (λ kind. is_made (word_qual_of kind)) (made_at word_qual_of) word_item (quals_form all) quals_same room (made_shrinks word_qual_of)
+    quals_complete room =
+        row_complete (λ kind. is_made (word_qual_of kind)) (made_at word_qual_of) word_item
+        (quals_form all) quals_same room (made_shrinks word_qual_of)
         (λ x s k f l. word_read x s k f) (λ x s. refl) word_starts
 
     -- words in brackets
@@ -477,27 +588,36 @@ module _ (all : List Lexeme) where
         (t ∷ ts ≡ array_item.text (make t.at) ts) × IsArrayWord all (make t.at)
     array_by_kind (Some of) t ts make tail is e =
         let p = qual_spells t ts of tail is in
-        subst (λ (make : ℕ → ArrayWord). (t ∷ ts ≡ array_item.text (make t.at) ts) × IsArrayWord all (make t.at)) (make_is e) p
+        subst (λ (make : ℕ → ArrayWord). (t ∷ ts ≡ array_item.text (make t.at) ts)
+        × IsArrayWord all (make t.at)) (make_is e) p
     array_by_kind None t ts make tail is e = static_word (is_static t.kind) refl e
       where
         static_word : (b : Bool) → is_static t.kind ≡ b → (if b then Some array_words.Static else None) ≡ Some make
             → (t ∷ ts ≡ array_item.text (make t.at) ts) × IsArrayWord all (make t.at)
         static_word true is e =
-            subst (λ (make : ℕ → ArrayWord). (t ∷ ts ≡ array_item.text (make t.at) ts) × IsArrayWord all (make t.at)) (make_is e)
+            subst (λ (make : ℕ → ArrayWord). (t ∷ ts ≡ array_item.text (make t.at) ts)
+            × IsArrayWord all (make t.at)) (make_is e)
             (ap (λ (kind : TokenKind). plain_text kind t.at ts) (static_kind t.kind is), tt)
         static_word false is e = absurd cc
 
     array_sound : (room : ℕ) → IsSound all array_item room (made_at array_word_of)
-    array_sound room = made_sound all array_word_of array_item room (λ w s. refl) (λ w. omega arith) (λ t ts make tail e. array_by_kind (qual_of t.kind) t ts make tail refl e)
+    array_sound room =
+        made_sound all array_word_of array_item room (λ w s. refl) (λ w. omega arith)
+        (λ t ts make tail e. array_by_kind (qual_of t.kind) t ts make tail refl e)
 
     pub array_words_falls : Falls array_words_at
     unfolding array_words_at
-    array_words_falls s ts x e = repeated_falls (λ kind. is_made (array_word_of kind)) (made_at array_word_of) (made_shrinks array_word_of) s ts x e
+    array_words_falls s ts x e =
+        repeated_falls (λ kind. is_made (array_word_of kind)) (made_at array_word_of)
+        (made_shrinks array_word_of) s ts x e
 
     pub array_words_sound : (room : ℕ) → IsSound all (array_words_form all) room array_words_at
     unfolding array_words_at
-    array_words_sound room = sound_as all (row_form array_item) (array_words_form all) array_words_same room (repeated (λ kind. is_made (array_word_of kind)) (made_at array_word_of))
-        (repeated_sound (λ kind. is_made (array_word_of kind)) (made_at array_word_of) all array_item room (array_sound room))
+    array_words_sound room =
+        sound_as all (row_form array_item) (array_words_form all) array_words_same room
+        (repeated (λ kind. is_made (array_word_of kind)) (made_at array_word_of))
+        (repeated_sound (λ kind. is_made (array_word_of kind)) (made_at array_word_of) all array_item room
+        (array_sound room))
 
     array_of_qual : (kind : TokenKind) (make : ℕ → Qual) → qual_of kind ≡ Some make
         → array_word_of kind ≡ Some (λ token. array_words.Qual (make token))
@@ -509,43 +629,56 @@ module _ (all : List Lexeme) where
     array_read (array_words.Qual q) s k h =
         let t = qual_token q k h in
         ap (λ (ts : List Lexeme). made_at array_word_of s ts) t.text ∙
-        made_is array_word_of (λ token. array_words.Qual (t.make token)) t.kind t.token s k (array_of_qual t.kind t.make t.is) ∙ ap (λ (q : Qual). done (found (array_words.Qual q) s k)) t.made
+        made_is array_word_of (λ token. array_words.Qual (t.make token)) t.kind t.token s k
+        (array_of_qual t.kind t.make t.is) ∙ ap (λ (q : Qual). done (found (array_words.Qual q) s k)) t.made
 
     array_starts : (w : ArrayWord) (k : List Lexeme) → IsArrayWord all w
         → is_made (array_word_of (kind_at (array_item.text w k))) ≡ true
     array_starts (array_words.Static token) k h = refl
     array_starts (array_words.Qual q) k h =
         let t = qual_token q k h in
-        ap (λ (ts : List Lexeme). is_made (array_word_of (kind_at ts))) t.text ∙ some_made array_word_of t.kind (λ token. array_words.Qual (t.make token)) (array_of_qual t.kind t.make t.is)
+        ap (λ (ts : List Lexeme). is_made (array_word_of (kind_at ts))) t.text
+        ∙ some_made array_word_of t.kind (λ token. array_words.Qual (t.make token)) (array_of_qual t.kind t.make t.is)
 
     pub array_words_complete : (room : ℕ)
         → IsComplete (array_words_form all) (λ xs kind. not (is_made (array_word_of kind))) room array_words_at
     unfolding array_words_at
-    array_words_complete room = row_complete (λ kind. is_made (array_word_of kind)) (made_at array_word_of) array_item (array_words_form all) array_words_same room (made_shrinks array_word_of)
+    array_words_complete room =
+        row_complete (λ kind. is_made (array_word_of kind)) (made_at array_word_of) array_item
+        (array_words_form all) array_words_same room (made_shrinks array_word_of)
         (λ x s k f l. array_read x s k f) (λ x s. refl) array_starts
 
     -- words of assembler
 
     abbrev Spells : ℕ → List Lexeme → TokenKind → (ℕ → Word) → Type 0
-    Spells n ts kind make = (record { kind = kind; at = n } ∷ ts ≡ word_text (make n) ts) × (is_asm_word (make n).keyword ≡ true)
+    Spells n ts kind make =
+        (record { kind = kind; at = n } ∷ ts ≡ word_text (make n) ts) × (is_asm_word (make n).keyword ≡ true)
 
     asm_by_kind : (kind : TokenKind) (n : ℕ) (ts : List Lexeme) (make : ℕ → Word) → asm_word_of kind ≡ Some make
         → Spells n ts kind make
-    asm_by_kind (kinds.Keyword keywords.Volatile) n ts make e = subst (Spells n ts (kinds.Keyword keywords.Volatile)) (make_is e) (refl, refl)
-    asm_by_kind (kinds.Keyword keywords.Goto) n ts make e = subst (Spells n ts (kinds.Keyword keywords.Goto)) (make_is e) (refl, refl)
-    asm_by_kind (kinds.Keyword keywords.Inline) n ts make e = subst (Spells n ts (kinds.Keyword keywords.Inline)) (make_is e) (refl, refl)
+    asm_by_kind (kinds.Keyword keywords.Volatile) n ts make e =
+        subst (Spells n ts (kinds.Keyword keywords.Volatile)) (make_is e) (refl, refl)
+    asm_by_kind (kinds.Keyword keywords.Goto) n ts make e =
+        subst (Spells n ts (kinds.Keyword keywords.Goto)) (make_is e) (refl, refl)
+    asm_by_kind (kinds.Keyword keywords.Inline) n ts make e =
+        subst (Spells n ts (kinds.Keyword keywords.Inline)) (make_is e) (refl, refl)
     asm_by_kind kind n ts make e = absurd cc
 
     asm_sound : (room : ℕ) → IsSound all asm_item room (made_at asm_word_of)
-    asm_sound room = made_sound all asm_word_of asm_item room (λ w s. refl) (λ w. omega arith) (λ t ts make tail e. asm_by_kind t.kind t.at ts make e)
+    asm_sound room =
+        made_sound all asm_word_of asm_item room (λ w s. refl) (λ w. omega arith)
+        (λ t ts make tail e. asm_by_kind t.kind t.at ts make e)
 
     pub asm_words_falls : Falls asm_words_at
     unfolding asm_words_at
-    asm_words_falls s ts x e = repeated_falls (λ kind. is_made (asm_word_of kind)) (made_at asm_word_of) (made_shrinks asm_word_of) s ts x e
+    asm_words_falls s ts x e =
+        repeated_falls (λ kind. is_made (asm_word_of kind)) (made_at asm_word_of) (made_shrinks asm_word_of) s ts x e
 
     pub asm_words_sound : (room : ℕ) → IsSound all (asm_words_form all) room asm_words_at
     unfolding asm_words_at
-    asm_words_sound room = sound_as all (row_form asm_item) (asm_words_form all) asm_words_same room (repeated (λ kind. is_made (asm_word_of kind)) (made_at asm_word_of))
+    asm_words_sound room =
+        sound_as all (row_form asm_item) (asm_words_form all) asm_words_same room
+        (repeated (λ kind. is_made (asm_word_of kind)) (made_at asm_word_of))
         (repeated_sound (λ kind. is_made (asm_word_of kind)) (made_at asm_word_of) all asm_item room (asm_sound room))
 
     asm_read : (keyword : Keyword) (token : ℕ) (s : HeldScopes) (k : List Lexeme) → is_asm_word keyword ≡ true →
@@ -564,5 +697,7 @@ module _ (all : List Lexeme) where
     pub asm_words_complete : (room : ℕ)
         → IsComplete (asm_words_form all) (λ xs kind. not (is_made (asm_word_of kind))) room asm_words_at
     unfolding asm_words_at
-    asm_words_complete room = row_complete (λ kind. is_made (asm_word_of kind)) (made_at asm_word_of) asm_item (asm_words_form all) asm_words_same room (made_shrinks asm_word_of)
+    asm_words_complete room =
+        row_complete (λ kind. is_made (asm_word_of kind)) (made_at asm_word_of) asm_item
+        (asm_words_form all) asm_words_same room (made_shrinks asm_word_of)
         (λ x s k f l. asm_read x.keyword x.token s k f) (λ x s. refl) (λ x k f. asm_starts x.keyword f)

@@ -2,6 +2,7 @@
 use Rattle.std.proofs.Common.{◌≡◌, ◌<◌, ℕ, ◌≤◌, Bool, true, false, if◌then◌else◌, List, [], ◌∷◌, length, Some, refl, sym, ◌∙◌, ap, arith}
 use Rattle.std.specs.Prelude.{not}
 use Rattle.std.proofs.lemmas.List.Elements.{All-nil, All-cons}
+use Rattle.std.proofs.lemmas.Option.{same_Some}
 use Rattle.c_words.specs.declared.kinds.TokenKind.{TokenKind}
 use Rattle.c_words.specs.declared.kinds.TokenKind.TheVariants as kinds
 use Rattle.c_words.specs.declared.kinds.Keyword.TheVariants as keywords
@@ -41,10 +42,8 @@ assert_shrinks s ts x e =
     let b = bind_ok a.2 in
     let c = bind_ok b.2 in
     let end = ap (λ (x : Found Assert). length x.rest) (ok_is c.2) in
-    omega (arith, token_falls is_static_assert _ _ _ a.1, group_shrinks _ _ _ b.1, token_falls is_semicolon _ _ _ c.1, end)
-
-some_is : {A : Type 0} (s t : A) → Some s ≡ Some t → s ≡ t
-some_is s t e = cc
+    omega
+    (arith, token_falls is_static_assert _ _ _ a.1, group_shrinks _ _ _ b.1, token_falls is_semicolon _ _ _ c.1, end)
 
 module _ (all : List Lexeme) where
   abbrev attr_item : Form Attr
@@ -59,7 +58,8 @@ module _ (all : List Lexeme) where
   pointer_text (pointer_words.Attr a) k = attr_text all a k
 
   abbrev pointer_item : Form PointerWord
-  pointer_item = record { text = pointer_text; Fits = IsPointerWord all; scopes = λ w s. Some s; height = pointer_height }
+  pointer_item =
+      record { text = pointer_text; Fits = IsPointerWord all; scopes = λ w s. Some s; height = pointer_height }
 
   attrs_row : (xs : List Attr) (k : List Lexeme) → row_text attr_item xs k ≡ attrs_text all xs k
   attrs_row [] k = refl
@@ -138,7 +138,8 @@ module _ (all : List Lexeme) where
   pub align_complete : (room : ℕ) → IsComplete (align_form all) always room align_at
   unfolding align_at
   align_complete room a s s' k h n l ended =
-      bind_is _ refl (bind_is _ (group_read all a.group s k h) (ap (λ (t : HeldScopes). done (found a t k)) (some_is s s' n)))
+      bind_is _ refl
+      (bind_is _ (group_read all a.group s k h) (ap (λ (t : HeldScopes). done (found a t k)) (same_Some s s' n)))
 
   abbrev attr_reader : ℕ → Reader Attr
   attr_reader room s ts = fits 2 room ts (attr_at s ts)
@@ -153,7 +154,8 @@ module _ (all : List Lexeme) where
   pub attrs_complete : (room : ℕ)
       → IsComplete (attrs_form all) (λ xs kind. not (is_attribute kind)) room (attrs_at room)
   unfolding attrs_at
-  attrs_complete room = row_complete is_attribute (attr_reader room) attr_item (attrs_form all) attrs_same room (attr_reader_shrinks room)
+  attrs_complete room =
+      row_complete is_attribute (attr_reader room) attr_item (attrs_form all) attrs_same room (attr_reader_shrinks room)
       (λ x s k f l. fits_is 2 room _ _ l ∙ attr_read x s k f) (λ x s. refl) (λ x k f. refl)
 
   pub pointer_word_shrinks : (room : ℕ) → Shrinks (pointer_word_at room)
@@ -170,19 +172,22 @@ module _ (all : List Lexeme) where
 
   pub pointer_words_falls : (room : ℕ) → Falls (pointer_words_at room)
   unfolding pointer_words_at
-  pointer_words_falls room s ts x e = repeated_falls begins_pointer_word (pointer_word_at room) (pointer_word_shrinks room) s ts x e
+  pointer_words_falls room s ts x e =
+      repeated_falls begins_pointer_word (pointer_word_at room) (pointer_word_shrinks room) s ts x e
 
   pub assert_complete : (room : ℕ) → IsComplete (assert_form all) always room assert_at
   unfolding assert_at
   assert_complete room it s s' k h n l ended =
-      bind_is _ refl (bind_is _ (group_read all it.group s (sign_text puncts.Semicolon it.semi k) h) (bind_is _ refl (ap (λ (t : HeldScopes). done (found it t k)) (some_is s s' n))))
+      bind_is _ refl (bind_is _ (group_read all it.group s (sign_text puncts.Semicolon it.semi k) h)
+      (bind_is _ refl (ap (λ (t : HeldScopes). done (found it t k)) (same_Some s s' n))))
 
   pointer_read : (room : ℕ) (numbered : IsNumbered all) (w : PointerWord) (s : HeldScopes) (k : List Lexeme)
       → IsPointerWord all w → pointer_height w ≤ room →
       pointer_word_at room s (pointer_text w k) ≡ done (found w s k)
   unfolding pointer_word_at
   pointer_read room numbered (pointer_words.Qual q) s k h l =
-      let no : is_attribute (kind_at (qual_text all q k)) ≡ false = qual_no_attribute (kind_at (qual_text all q k)) (qual_starts all numbered q k h) in
+      let no : is_attribute (kind_at (qual_text all q k)) ≡ false =
+      qual_no_attribute (kind_at (qual_text all q k)) (qual_starts all numbered q k h) in
       rw no (bind_is _ (qual_read all numbered q s k h) refl)
     where
       qual_no_attribute : (kind : TokenKind) → is_made (qual_of kind) ≡ true → is_attribute kind ≡ false
@@ -192,7 +197,8 @@ module _ (all : List Lexeme) where
 
   pointer_starts : (numbered : IsNumbered all) (w : PointerWord) (k : List Lexeme) → IsPointerWord all w
       → begins_pointer_word (kind_at (pointer_text w k)) ≡ true
-  pointer_starts numbered (pointer_words.Qual q) k h = either_way (is_attribute (kind_at (qual_text all q k))) (qual_starts all numbered q k h)
+  pointer_starts numbered (pointer_words.Qual q) k h =
+      either_way (is_attribute (kind_at (qual_text all q k))) (qual_starts all numbered q k h)
     where
       either_way : (b : Bool) {c : Bool} → c ≡ true → (if b then true else c) ≡ true
       either_way true e = refl
@@ -202,7 +208,9 @@ module _ (all : List Lexeme) where
   pub pointer_words_complete : (numbered : IsNumbered all) (room : ℕ)
       → IsComplete (pointer_words_form all) (λ xs kind. not (begins_pointer_word kind)) room (pointer_words_at room)
   unfolding pointer_words_at
-  pointer_words_complete numbered room = row_complete begins_pointer_word (pointer_word_at room) pointer_item (pointer_words_form all) pointer_same room (pointer_word_shrinks room)
+  pointer_words_complete numbered room =
+      row_complete begins_pointer_word (pointer_word_at room) pointer_item (pointer_words_form all) pointer_same room
+      (pointer_word_shrinks room)
       (λ x s k f l. pointer_read room numbered x s k f l) (λ x s. refl) (λ x k f. pointer_starts numbered x k f)
 
   module _ (numbered : IsNumbered all) where
@@ -256,11 +264,20 @@ module _ (all : List Lexeme) where
         → attr_at s ts ≡ done x → Takes all (attrs_form all) 2 s ts (found (x.tree ∷ []) x.scopes x.rest)
     attr_sound room s ts x tail e =
         let a = took_attr s ts x tail e in
-        record { spelled = a.spelled; fits = All-cons (λ (a : Attr). IsGroup all a.group) x.tree [] a.fits (All-nil (λ (a : Attr). IsGroup all a.group)); named = ap Some (sym a.same); low = omega arith; left = a.left }
+        record {
+          spelled = a.spelled;
+          fits = All-cons (λ (a : Attr). IsGroup all a.group) x.tree [] a.fits
+              (All-nil (λ (a : Attr). IsGroup all a.group));
+          named = ap Some (sym a.same);
+          low = omega arith;
+          left = a.left;
+        }
 
     pub attrs_sound : (room : ℕ) → IsSound all (attrs_form all) room (attrs_at room)
     unfolding attrs_at
-    attrs_sound room = sound_as all (row_form attr_item) (attrs_form all) attrs_same room (repeated is_attribute (attr_reader room)) (repeated_sound is_attribute (attr_reader room) all attr_item room (attr_sound_item room))
+    attrs_sound room =
+        sound_as all (row_form attr_item) (attrs_form all) attrs_same room (repeated is_attribute (attr_reader room))
+        (repeated_sound is_attribute (attr_reader room) all attr_item room (attr_sound_item room))
 
     pointer_sound_item : (room : ℕ) → IsSound all pointer_item room (pointer_word_at room)
     unfolding pointer_word_at
@@ -269,14 +286,18 @@ module _ (all : List Lexeme) where
         (λ is e. let r = fits_ok 2 room ts e in
         let b = bind_ok r.1 in
         let a = took_attr s ts b.0 tail b.1 in
-        at_end (Takes all pointer_item room s ts) b.2 (record { spelled = a.spelled; fits = a.fits; named = ap Some (sym a.same); low = r.0; left = a.left }))
+        at_end (Takes all pointer_item room s ts) b.2
+        (record { spelled = a.spelled; fits = a.fits; named = ap Some (sym a.same); low = r.0; left = a.left }))
         (λ is e. let b = bind_ok e in
         let q = qual_sound all numbered room s ts b.0 tail b.1 in
-        at_end (Takes all pointer_item room s ts) b.2 (record { spelled = q.spelled; fits = q.fits; named = q.named; low = omega arith; left = q.left }))
+        at_end (Takes all pointer_item room s ts) b.2
+        (record { spelled = q.spelled; fits = q.fits; named = q.named; low = omega arith; left = q.left }))
 
     pub pointer_words_sound : (room : ℕ) → IsSound all (pointer_words_form all) room (pointer_words_at room)
     unfolding pointer_words_at
-    pointer_words_sound room = sound_as all (row_form pointer_item) (pointer_words_form all) pointer_same room (repeated begins_pointer_word (pointer_word_at room))
+    pointer_words_sound room =
+        sound_as all (row_form pointer_item) (pointer_words_form all) pointer_same room
+        (repeated begins_pointer_word (pointer_word_at room))
         (repeated_sound begins_pointer_word (pointer_word_at room) all pointer_item room (pointer_sound_item room))
 
     pub assert_sound : (room : ℕ) → IsSound all (assert_form all) room assert_at
@@ -285,11 +306,14 @@ module _ (all : List Lexeme) where
         let a = bind_ok e in
         let b = bind_ok a.2 in
         let c = bind_ok b.2 in
-        let w = took_token all is_static_assert (kinds.Keyword keywords.StaticAssert) static_assert_kind s ts a.0 tail a.1 in
+        let w =
+        took_token all is_static_assert (kinds.Keyword keywords.StaticAssert) static_assert_kind s ts a.0 tail a.1 in
         let g = took_group all numbered a.0.scopes a.0.rest b.0 w.left b.1 in
-        let m = took_token all is_semicolon (kinds.Punct puncts.Semicolon) semicolon_kind b.0.scopes b.0.rest c.0 g.left c.1 in
+        let m =
+        took_token all is_semicolon (kinds.Punct puncts.Semicolon) semicolon_kind b.0.scopes b.0.rest c.0 g.left c.1 in
         at_end (Takes all (assert_form all) room s ts) c.2 (record {
-          spelled = w.spelled ∙ ap (λ (us : List Lexeme). keyword_text keywords.StaticAssert a.0.tree us) (g.spelled ∙ ap (λ (us : List Lexeme). group_text all b.0.tree us) m.spelled);
+          spelled = w.spelled ∙ ap (λ (us : List Lexeme). keyword_text keywords.StaticAssert a.0.tree us)
+              (g.spelled ∙ ap (λ (us : List Lexeme). group_text all b.0.tree us) m.spelled);
           fits = g.fits;
           named = ap Some (sym (m.same ∙ g.same ∙ w.same));
           low = omega arith;
@@ -300,6 +324,7 @@ module _ (all : List Lexeme) where
         → attr_at s (attrs_text all (a ∷ []) k) ≡ done (found a s k)
     attr_complete a s k h = attr_read a s k h
 
+-- the readers of rows of tokens, groups, attributes and words take tokens, and are sound and complete
 pub token_laws : (all : List Lexeme) → IsNumbered all → TokenLaws all
 token_laws all numbered = record {
   exts_falls = TokenRows.exts_falls all;

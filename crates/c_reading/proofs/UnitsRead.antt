@@ -55,7 +55,8 @@ module _ (whole_are : WholeAreMixes) (goes : MixesGoOn) (all : List Lexeme) (num
 
   rows_named : (xs : List Item) (s : HeldScopes) → row_scopes (item_form all) xs s ≡ items_scopes xs s
   rows_named [] s = refl
-  rows_named (x ∷ xs) s = behind_same (item_scopes x s) (row_scopes (item_form all) xs) (items_scopes xs) (rows_named xs)
+  rows_named (x ∷ xs) s =
+      behind_same (item_scopes x s) (row_scopes (item_form all) xs) (items_scopes xs) (rows_named xs)
 
   rows_fit : (xs : List Item) → AllFit (item_form all) xs → All (IsItem all) xs
   rows_fit [] h = All-nil (IsItem all)
@@ -84,7 +85,9 @@ module _ (whole_are : WholeAreMixes) (goes : MixesGoOn) (all : List Lexeme) (num
   unit_sound wide x e =
       let a = bind_ok e in
       let b = bind_ok a.2 in
-      let i = repeated_sound (λ kind. not (is_end kind)) (item_with (knot most) (most - 1)) all (item_form all) 499 (item_sound all numbered tokens (suc most) (knot most) (knot_laws most) goes 499) (file_scope wide) all a.0 (0, refl) a.1 in
+      let i = repeated_sound (λ kind. not (is_end kind)) (item_with (knot most) (most - 1)) all (item_form all) 499
+      (item_sound all numbered tokens (suc most) (knot most) (knot_laws most) goes 499) (file_scope wide) all a.0
+      (0, refl) a.1 in
       let q = took_token all is_end kinds.End end_kind a.0.scopes a.0.rest b.0 i.left b.1 in
       at_last a.0 b.0 b.0.rest refl i q b.2
     where
@@ -93,8 +96,15 @@ module _ (whole_are : WholeAreMixes) (goes : MixesGoOn) (all : List Lexeme) (num
           → alone wide a.tree rest ≡ done x → IsWellFormed wide all x.tree
       at_last a b [] is i q e =
           subst (λ (x : Found (List Item)). IsWellFormed wide all x.tree) (ok_is e) (record {
-            tokens = record { last = b.tree; spelled = i.spelled ∙ rows_are a.tree a.rest ∙ ap (items_text all a.tree) (q.spelled ∙ ap (λ (k : List Lexeme). record { kind = kinds.End; at = b.tree } ∷ k) is) };
-            rules = record { parts = rows_fit a.tree i.fits; low = rows_low (unit_height a.tree) (row_height (item_form all) a.tree) (rows_high a.tree) i.low };
+            tokens = record {
+              last = b.tree;
+              spelled = i.spelled ∙ rows_are a.tree a.rest ∙ ap (items_text all a.tree)
+                  (q.spelled ∙ ap (λ (k : List Lexeme). record { kind = kinds.End; at = b.tree } ∷ k) is);
+            };
+            rules = record {
+              parts = rows_fit a.tree i.fits;
+              low = rows_low (unit_height a.tree) (row_height (item_form all) a.tree) (rows_high a.tree) i.low;
+            };
             scopes = a.scopes;
             named = sym (rows_named a.tree (file_scope wide)) ∙ i.named;
           })
@@ -107,7 +117,8 @@ module _ (whole_are : WholeAreMixes) (goes : MixesGoOn) (all : List Lexeme) (num
   words_no_end : (exts : List ℕ) (ws : SpecWords) (s t : HeldScopes) (k : List Lexeme) → IsMix ws → AreSpecWords all ws
       → spec_words_scopes ws s ≡ Some t
       → not (is_end (kind_at (extensions_text exts (spec_words_text all ws k)))) ≡ true
-  words_no_end [] ws s t k mix fit named = not_false (specs_no_end s (kind_at (spec_words_text all ws k)) (firsts.words_begin ws s t k mix fit named))
+  words_no_end [] ws s t k mix fit named =
+      not_false (specs_no_end s (kind_at (spec_words_text all ws k)) (firsts.words_begin ws s t k mix fit named))
   words_no_end (e ∷ exts) ws s t k mix fit named = refl
 
   item_starts : (x : Item) (s t : HeldScopes) (k : List Lexeme) → IsItem all x → item_scopes x s ≡ Some t
@@ -131,10 +142,15 @@ module _ (whole_are : WholeAreMixes) (goes : MixesGoOn) (all : List Lexeme) (num
   unit_complete wide items w =
       let end : List Lexeme = record { kind = kinds.End; at = w.tokens.last } ∷ [] in
       let spelled : all ≡ row_text (item_form all) items end = w.tokens.spelled ∙ sym (rows_are items end) in
-      bind_is _ (ap (repeated (λ kind. not (is_end kind)) (item_with (knot most) (most - 1)) (file_scope wide)) spelled ∙
-      repeated_complete (λ kind. not (is_end kind)) (item_with (knot most) (most - 1)) (item_form all) always 499 (item_shrinks all tokens (suc most) (knot most) (knot_laws most) 499)
-      (item_complete all numbered tokens firsts (suc most) (knot most) (knot_laws most) whole_are goes body_read 499 (omega arith)) item_starts (λ x kind e. refl) items (file_scope wide) w.scopes end (rows_fit_back items w.rules.parts)
-      (rows_named items (file_scope wide) ∙ w.named) (rows_low_back (unit_height items) (row_height (item_form all) items) (rows_high items) w.rules.low) refl (λ x. refl))
+      bind_is _
+      (ap (repeated (λ kind. not (is_end kind)) (item_with (knot most) (most - 1)) (file_scope wide)) spelled ∙
+      repeated_complete (λ kind. not (is_end kind)) (item_with (knot most) (most - 1)) (item_form all) always 499
+      (item_shrinks all tokens (suc most) (knot most) (knot_laws most) 499)
+      (item_complete all numbered tokens firsts (suc most) (knot most) (knot_laws most) whole_are goes body_read 499
+      (omega arith)) item_starts (λ x kind e. refl) items (file_scope wide) w.scopes end
+      (rows_fit_back items w.rules.parts)
+      (rows_named items (file_scope wide) ∙ w.named) (rows_low_back (unit_height items)
+      (row_height (item_form all) items) (rows_high items) w.rules.low) refl (λ x. refl))
       (bind_is _ refl refl)
 
 module _ (whole_are : WholeAreMixes) (goes : MixesGoOn) where
@@ -145,4 +161,6 @@ module _ (whole_are : WholeAreMixes) (goes : MixesGoOn) where
   well_formed_is_read wide all numbered items w = unit_complete whole_are goes all numbered wide items w
 
   pub one_unit_at_most : OneUnitAtMost
-  one_unit_at_most wide all numbered items others w o = ap (λ (x : Found (List Item)). x.tree) (ok_is (sym (unit_complete whole_are goes all numbered wide items w) ∙ unit_complete whole_are goes all numbered wide others o))
+  one_unit_at_most wide all numbered items others w o =
+      ap (λ (x : Found (List Item)). x.tree) (ok_is (sym (unit_complete whole_are goes all numbered wide items w)
+      ∙ unit_complete whole_are goes all numbered wide others o))

@@ -15,7 +15,7 @@ use Rattle.typedef_scope.specs.declared.kind.Kind.TheVariants.{Typedef, Value}
 use Rattle.c_units.specs.HeldScopes.{HeldScopes, HeldScope, is_wide, new_scope, names_type, enter, leave, innermost, release}
 use Rattle.c_units.specs.Scoping.{at_name}
 use Rattle.c_units.specs.Units.{bare_name}
-use Rattle.c_reading.specs.declared.kinds.Fault.TheVariants.{Unexpected, Redeclared}
+use Rattle.c_reading.specs.declared.kinds.FaultKind.TheVariants.{Unexpected, Redeclared}
 use Rattle.c_reading.specs.declared.kinds.Reach.TheVariants.{Assigned}
 use Rattle.c_reading.specs.declared.kinds.Role.TheVariants.{Typed, Naming}
 use Rattle.c_reading.specs.declared.kinds.Mode.{Mode}
@@ -41,21 +41,25 @@ least_pointer Either = 1
 -- not
 abbrev pub with_pointer : ℕ → List PointerWord → SomeDeclr → Declr
 with_pointer token words no_declr = abs_pointer token words no_declr
-with_pointer token words (some_declr d) = if is_named d then pointer token words d else abs_pointer token words (some_declr d)
+with_pointer token words (some_declr d) =
+    if is_named d then pointer token words d else abs_pointer token words (some_declr d)
 
 -- parentheses around a declarator, with a name or abstract as that is
 abbrev pub with_paren : ℕ → List Attr → Declr → ℕ → Declr
-with_paren opening attrs d closing = if is_named d then declr_paren opening attrs d closing else abs_paren opening attrs d closing
+with_paren opening attrs d closing =
+    if is_named d then declr_paren opening attrs d closing else abs_paren opening attrs d closing
 
 -- brackets behind a declarator, with a name or abstract as that is; behind none, an abstract one
 abbrev pub with_array : SomeDeclr → ℕ → List ArrayWord → SomeSize → ℕ → Declr
 with_array no_declr opening words size closing = abs_array no_declr opening words size closing
-with_array (some_declr d) opening words size closing = if is_named d then array d opening words size closing else abs_array (some_declr d) opening words size closing
+with_array (some_declr d) opening words size closing =
+    if is_named d then array d opening words size closing else abs_array (some_declr d) opening words size closing
 
 -- parameters behind a declarator, with a name or abstract as that is; behind none, an abstract one
 abbrev pub with_params : SomeDeclr → ℕ → Params → Option Dots → ℕ → Declr
 with_params no_declr opening ps dots closing = abs_params no_declr opening ps dots closing
-with_params (some_declr d) opening ps dots closing = if is_named d then params d opening ps dots closing else abs_params (some_declr d) opening ps dots closing
+with_params (some_declr d) opening ps dots closing =
+    if is_named d then params d opening ps dots closing else abs_params (some_declr d) opening ps dots closing
 
 -- the name alone, parentheses aside
 abbrev pub is_bare : SomeDeclr → Bool
@@ -91,7 +95,8 @@ opens_params attrs s kind = (are_none attrs && is_close_paren kind) || begins_sp
 
 -- whether a declarator goes on so, where no name must come
 abbrev pub opens_declr : Mode → TokenKind → Bool
-opens_declr mode kind = is_star kind || is_open_paren kind || is_open_bracket kind || (takes_name mode && is_some (spelled_name kind))
+opens_declr mode kind =
+    is_star kind || is_open_paren kind || is_open_bracket kind || (takes_name mode && is_some (spelled_name kind))
 
 -- a parameter takes the attributes behind its declarator, where there is one that takes none itself
 abbrev pub takes_attrs : SomeDeclr → Bool
@@ -131,7 +136,9 @@ names_base s mode wanted kind = false
 
 -- a base word in the place of a declarator's name
 abbrev pub base_named : ℕ → Reader Declared
-base_named room s ts = fits 1 room ts (take_one s ts >>= λ token. ends (record { declr = some_declr (base_name token.tree); closed = None }) token.scopes token.rest)
+base_named room s ts =
+    fits 1 room ts (take_one s ts >>= λ token.
+    ends (record { declr = some_declr (base_name token.tree); closed = None }) token.scopes token.rest)
 
 -- nothing stands where a declarator may: refused where it must have a name
 abbrev pub absent : Mode → Reader Declared
@@ -142,7 +149,9 @@ absent Either s ts = ends (record { declr = no_declr; closed = None }) s ts
 -- a name, which is held where a kind is wanted
 abbrev pub name_held : ℕ → ℕ → Option HeldScopes → HeldScopes → List Lexeme → Read Declared
 name_held name room None s ts = refuses Redeclared ts
-name_held name room (Some held) s ts = fits 1 room ts (take_one s ts >>= λ token. ends (record { declr = some_declr (declr_name token.tree name); closed = None }) held token.rest)
+name_held name room (Some held) s ts =
+    fits 1 room ts (take_one s ts >>= λ token.
+    ends (record { declr = some_declr (declr_name token.tree name); closed = None }) held token.rest)
 
 module _ (inner : Inner) where
   -- a size that begins with a star
@@ -150,7 +159,8 @@ module _ (inner : Inner) where
   star_size room s ts = do
     token ← take_one s ts
     if is_close_bracket (kind_at token.rest) then ends (some_size (size_star token.tree)) token.scopes token.rest
-        else inner.expr Assigned (star token.tree) (room - 1) token.scopes token.rest >>= λ e. ends (some_size (size_value e.tree)) e.scopes e.rest
+        else inner.expr Assigned (star token.tree) (room - 1) token.scopes token.rest >>= λ e.
+        ends (some_size (size_value e.tree)) e.scopes e.rest
 
   -- [assign | *]
   unfoldable pub size_with : ℕ → Reader SomeSize
@@ -166,7 +176,10 @@ module _ (inner : Inner) where
     words ← array_words_at opening.scopes opening.rest
     size ← size_with room words.scopes words.rest
     closing ← token_at is_close_bracket size.scopes size.rest
-    ends (record { declr = some_declr (with_array d.declr opening.tree words.tree size.tree closing.tree); closed = d.closed }) closing.scopes closing.rest
+    ends (record {
+      declr = some_declr (with_array d.declr opening.tree words.tree size.tree closing.tree);
+      closed = d.closed;
+    }) closing.scopes closing.rest
 
   -- the specifiers of a parameter, of which these were read already
   abbrev pub param_words : SpecWords → ℕ → Reader SpecWords
@@ -190,8 +203,10 @@ module _ (inner : Inner) where
   next_param room comma s ts = do
     quals ← quals_at s ts
     if is_dots (kind_at quals.rest)
-        then (take_one quals.scopes quals.rest >>= λ dots. ends (list_end (record { comma = comma; quals = quals.tree; dots = dots.tree })) dots.scopes dots.rest)
-        else param_with (words_of_quals quals.tree) room quals.scopes quals.rest >>= λ p. ends (one_more p.tree) p.scopes p.rest
+        then (take_one quals.scopes quals.rest >>= λ dots.
+        ends (list_end (record { comma = comma; quals = quals.tree; dots = dots.tree })) dots.scopes dots.rest)
+        else param_with (words_of_quals quals.tree) room quals.scopes quals.rest >>= λ p.
+        ends (one_more p.tree) p.scopes p.rest
 
   -- [Param (, Param)* [, qual* ...]], behind attributes of the first
   unfoldable pub params_with : List Attr → ℕ → Reader (CommaList ParamItem Dots)
@@ -215,21 +230,28 @@ module _ (inner : Inner) where
   identifiers_with d opening s ts = do
     names ← names_list identifier_at s ts
     closing ← token_at is_close_paren names.scopes names.rest
-    ends (record { declr = some_declr (identifiers d opening names.tree closing.tree); closed = Some (new_scope (is_wide s)) }) closing.scopes closing.rest
+    ends (record {
+      declr = some_declr (identifiers d opening names.tree closing.tree);
+      closed = Some (new_scope (is_wide s));
+    }) closing.scopes closing.rest
 
   -- a list of identifiers behind a declarator, or else parameters, by whether identifiers begin
   abbrev pub list_behind : Bool → Declared → ℕ → ℕ → Reader Declared
-  list_behind true d opening room s ts = identifiers_of d.declr (λ inside. identifiers_with inside opening s ts) (prototype_with d opening [] room s ts)
+  list_behind true d opening room s ts =
+      identifiers_of d.declr (λ inside. identifiers_with inside opening s ts) (prototype_with d opening [] room s ts)
   list_behind false d opening room s ts = prototype_with d opening [] room s ts
 
   -- a parenthesis behind a declarator, with a list of identifiers where one may stand and begins, and else parameters
   abbrev pub params_behind : Bool → Declared → ℕ → Reader Declared
-  params_behind flag d room s ts = take_one s ts >>= λ opening. list_behind (flag && is_bare d.declr && begins_identifiers opening.scopes (kind_at opening.rest)) d opening.tree room opening.scopes opening.rest
+  params_behind flag d room s ts =
+      take_one s ts >>= λ opening. list_behind (flag && is_bare d.declr
+      && begins_identifiers opening.scopes (kind_at opening.rest)) d opening.tree room opening.scopes opening.rest
 
   -- brackets and parameters behind a declarator
   abbrev pub suffix_turn : Bool → ℕ → Turn Declared
   suffix_turn flag room d s ts =
-      if is_open_bracket (kind_at ts) then Some (fits (suc (some_declr_height d.declr)) (room_at flag room d (kind_at ts)) ts (array_with d (room_at flag room d (kind_at ts)) s ts))
+      if is_open_bracket (kind_at ts) then Some (fits (suc (some_declr_height d.declr))
+      (room_at flag room d (kind_at ts)) ts (array_with d (room_at flag room d (kind_at ts)) s ts))
       else if is_open_paren (kind_at ts) then Some (fits (suc (some_declr_height d.declr)) (room_at flag room d (kind_at ts)) ts (params_behind flag d (room_at flag room d (kind_at ts)) s ts))
       else None
 
@@ -239,7 +261,8 @@ module _ (inner : Inner) where
     d ← inner.declr mode wanted flag (room - 1) s ts
     known ← present d.tree.declr d.scopes d.rest
     closing ← token_at is_close_paren known.scopes known.rest
-    ends (record { declr = some_declr (with_paren opening attrs known.tree closing.tree); closed = d.tree.closed }) closing.scopes closing.rest
+    ends (record { declr = some_declr (with_paren opening attrs known.tree closing.tree); closed = d.tree.closed })
+        closing.scopes closing.rest
 
   -- a declarator in parentheses, where a name must come
   unfoldable pub named_paren : Option Kind → Bool → ℕ → Reader Declared
@@ -251,7 +274,8 @@ module _ (inner : Inner) where
   -- parameters or a declarator in parentheses, by the token behind the parenthesis and attributes
   unfoldable pub opened_by : Mode → Option Kind → Bool → ℕ → List Attr → ℕ → Reader Declared
   opened_by mode wanted flag opening attrs room s ts =
-      if opens_params attrs s (kind_at ts) then prototype_with (record { declr = no_declr; closed = None }) opening attrs room s ts
+      if opens_params attrs s (kind_at ts)
+      then prototype_with (record { declr = no_declr; closed = None }) opening attrs room s ts
       else if opens_declr mode (kind_at ts) then paren_with mode wanted flag opening attrs room s ts
       else refuses Unexpected ts
 
@@ -272,7 +296,8 @@ module _ (inner : Inner) where
   -- a name, where the mode takes one and it stands there, or else no declarator
   abbrev pub name_or_none : Mode → Option Kind → Option ℕ → ℕ → Reader Declared
   name_or_none mode wanted None room s ts = absent mode s ts
-  name_or_none mode wanted (Some name) room s ts = if takes_name mode then name_held name room (at_name wanted name s) s ts else absent mode s ts
+  name_or_none mode wanted (Some name) room s ts =
+      if takes_name mode then name_held name room (at_name wanted name s) s ts else absent mode s ts
 
   -- what stands before brackets and parameters: a name, something in parentheses, or nothing
   unfoldable pub core_with : Mode → Option Kind → Bool → ℕ → Reader Declared
@@ -293,11 +318,13 @@ module _ (inner : Inner) where
     token ← take_one s ts
     words ← pointer_words_at room token.scopes token.rest
     d ← inner.declr mode wanted flag (room - 1) words.scopes words.rest
-    ends (record { declr = some_declr (with_pointer token.tree words.tree d.tree.declr); closed = d.tree.closed }) d.scopes d.rest)
+    ends (record { declr = some_declr (with_pointer token.tree words.tree d.tree.declr); closed = d.tree.closed })
+        d.scopes d.rest)
 
   -- declr = Pointer | direct, absdeclr = AbsPointer | absdirect, or none where none must stand
   unfoldable pub declr_with : Mode → Option Kind → Bool → ℕ → Reader Declared
-  declr_with mode wanted flag room s ts = if is_star (kind_at ts) then pointer_with mode wanted flag room s ts else direct_with mode wanted flag room s ts
+  declr_with mode wanted flag room s ts =
+      if is_star (kind_at ts) then pointer_with mode wanted flag room s ts else direct_with mode wanted flag room s ts
 
   -- TypeName = Specs [absdeclr]
   unfoldable pub type_name_with : ℕ → Reader TypeName

@@ -13,7 +13,7 @@ use Rattle.c_tree.specs.Levels.{binary_level, is_assignment, expr_level}
 use Rattle.c_ops.specs.Joining.{Stack, bottom, above, Settled, settle_of, finished}
 use Rattle.c_tree.specs.declared.lexeme.Lexeme.{Lexeme}
 use Rattle.c_units.specs.HeldScopes.{HeldScopes, is_wide, names_type}
-use Rattle.c_reading.specs.declared.kinds.Fault.TheVariants.{Unexpected, BadTarget}
+use Rattle.c_reading.specs.declared.kinds.FaultKind.TheVariants.{Unexpected, BadTarget}
 use Rattle.c_reading.specs.declared.kinds.Reach.{Reach}
 use Rattle.c_reading.specs.declared.kinds.Reach.TheVariants.{Whole, Assigned, Conditional, Castable, Unary}
 use Rattle.c_reading.specs.declared.kinds.Opening.{Opening}
@@ -135,7 +135,7 @@ abbrev pub begins_desig : TokenKind → Bool
 begins_desig kind = if is_dot kind then true else is_open_bracket kind
 
 -- operands that wait with their operators, and the last operand
-pub record Row : Type 0 where
+pub record OperandRow : Type 0 where
   pub waiting : Stack
   pub last : Expr
 
@@ -145,7 +145,7 @@ how_many bottom = 0
 how_many (above waiting left) = suc (how_many waiting)
 
 -- what waits where an operator of a level comes next
-abbrev pub settled : Row → ℕ → Settled
+abbrev pub settled : OperandRow → ℕ → Settled
 settled row level = settle_of level row.waiting row.last
 
 -- behind how many waiting operands, that with the operator among them, the next operand stands
@@ -153,8 +153,9 @@ abbrev pub depth_of : Settled → ℕ
 depth_of left = suc (how_many left.below)
 
 -- an operator and the operand behind it
-abbrev pub with_operand : Settled → Operator → ℕ → Expr → Row
-with_operand left op token e = record { waiting = above left.below (record { tree = left.last; operator = op; token = token }); last = e }
+abbrev pub with_operand : Settled → Operator → ℕ → Expr → OperandRow
+with_operand left op token e =
+    record { waiting = above left.below (record { tree = left.last; operator = op; token = token }); last = e }
 
 -- `__extension__` at these tokens, before an expression
 abbrev pub extended : List ℕ → Expr → Expr
@@ -164,13 +165,15 @@ extended (token ∷ tokens) e = extension token (extended tokens e)
 module _ (inner : Inner) where
   -- a further argument of a call, behind a comma
   unfoldable pub next_argument : ℕ → ℕ → Reader (Next Expr ⊥)
-  next_argument room token s ts = inner.expr Assigned nothing (room - 1) s ts >>= λ e. ends (one_more e.tree) e.scopes e.rest
+  next_argument room token s ts =
+      inner.expr Assigned nothing (room - 1) s ts >>= λ e. ends (one_more e.tree) e.scopes e.rest
 
   -- [assign (, assign)*]
   unfoldable pub arguments_with : ℕ → Reader Exprs
   arguments_with room s ts =
       if is_close_paren (kind_at ts) then ends no_exprs s ts
-      else listed (inner.expr Assigned nothing (room - 1)) (next_argument room) s ts >>= λ es. ends (exprs_from es.tree.items) es.scopes es.rest
+      else listed (inner.expr Assigned nothing (room - 1)) (next_argument room) s ts >>= λ es.
+      ends (exprs_from es.tree.items) es.scopes es.rest
 
   -- Index = postfix [ expr ]
   unfoldable pub index_with : Expr → ℕ → Reader Expr
@@ -230,7 +233,8 @@ module _ (inner : Inner) where
 
   -- a primary expression of one token, with its postfix forms
   abbrev pub primary_with : (ℕ → Expr) → ℕ → Reader Expr
-  primary_with make room s ts = fits 1 room ts (take_one s ts >>= λ token. postfixed room (make token.tree) token.scopes token.rest)
+  primary_with make room s ts =
+      fits 1 room ts (take_one s ts >>= λ token. postfixed room (make token.tree) token.scopes token.rest)
 
   -- TextUse = Text+
   unfoldable pub text_with : ℕ → Reader Expr
@@ -270,7 +274,8 @@ module _ (inner : Inner) where
   statement_with opening room s ts = do
     block ← inner.block (room - 1) s ts
     closing ← token_at is_close_paren block.scopes block.rest
-    postfixed room (statement_expr opening block.tree.opening block.tree.items block.tree.closing closing.tree) closing.scopes closing.rest
+    postfixed room (statement_expr opening block.tree.opening block.tree.items block.tree.closing closing.tree)
+        closing.scopes closing.rest
 
   -- Paren = ( expr ), behind the parenthesis
   unfoldable pub paren_with : ℕ → ℕ → Reader Expr
@@ -288,7 +293,8 @@ module _ (inner : Inner) where
 
   -- a cast, a compound literal, a statement in parentheses, or an expression in parentheses
   unfoldable pub opened_with : Bool → ℕ → Reader Expr
-  opened_with casts room s ts = fits 2 room ts (take_one s ts >>= λ opening. opened_by casts opening.tree room opening.scopes opening.rest)
+  opened_with casts room s ts =
+      fits 2 room ts (take_one s ts >>= λ opening. opened_by casts opening.tree room opening.scopes opening.rest)
 
   -- Prefix = (++ | --) unary | (& | * | + | - | ~ | !) cast
   unfoldable pub prefix_with : Punct → Reach → ℕ → Reader Expr
@@ -314,7 +320,8 @@ module _ (inner : Inner) where
   unfoldable pub sizeof_typed : Word → ℕ → TypeName → ℕ → ℕ → Reader Expr
   sizeof_typed word opening t closing room s ts =
       if is_open_brace (kind_at ts)
-      then fits (2 + type_name_height t) room ts (compound_with opening t closing (room - 1) s ts >>= λ e. ends (sizeof_value word e.tree) e.scopes e.rest)
+      then fits (2 + type_name_height t) room ts
+      (compound_with opening t closing (room - 1) s ts >>= λ e. ends (sizeof_value word e.tree) e.scopes e.rest)
       else ends (sizeof_type word opening t.words t.declr closing) s ts
 
   -- SizeofType = (sizeof | alignof) ( TypeName ), behind the word
@@ -329,12 +336,15 @@ module _ (inner : Inner) where
   unfoldable pub sizeof_behind : Word → ℕ → Reader Expr
   sizeof_behind word room s ts =
       if is_open_paren (kind_at ts)
-      then fits 3 room ts (if begins_specs s (kind_at (behind_first ts)) then sizeof_type_with word room s ts else sizeof_value_with word room s ts)
+      then fits 3 room ts (if begins_specs s (kind_at (behind_first ts)) then sizeof_type_with word room s ts
+      else sizeof_value_with word room s ts)
       else sizeof_value_with word room s ts
 
   -- Sizeof or SizeofType, at the word
   unfoldable pub sizeof_with : Keyword → ℕ → Reader Expr
-  sizeof_with keyword room s ts = fits 2 room ts (take_one s ts >>= λ token. sizeof_behind (word_of keyword token.tree) room token.scopes token.rest)
+  sizeof_with keyword room s ts =
+      fits 2 room ts
+      (take_one s ts >>= λ token. sizeof_behind (word_of keyword token.tree) room token.scopes token.rest)
 
   -- Part = part cast
   unfoldable pub part_with : ℕ → Reader Expr
@@ -347,7 +357,8 @@ module _ (inner : Inner) where
   unfoldable pub label_use_with : ℕ → Reader Expr
   label_use_with room s ts =
       if is_wide s
-      then fits 1 room ts (take_one s ts >>= λ token. name_at token.scopes token.rest >>= λ name. ends (label_use token.tree name.tree) name.scopes name.rest)
+      then fits 1 room ts (take_one s ts >>= λ token. name_at token.scopes token.rest >>= λ name.
+      ends (label_use token.tree name.tree) name.scopes name.rest)
       else refuses Unexpected ts
 
   -- Compat = __builtin_types_compatible_p ( TypeName , TypeName )
@@ -359,7 +370,8 @@ module _ (inner : Inner) where
     separator ← token_at is_comma t.scopes t.rest
     t2 ← inner.type_name (room - 1) separator.scopes separator.rest
     closing ← token_at is_close_paren t2.scopes t2.rest
-    postfixed room (compat keyword.tree opening.tree t.tree.words t.tree.declr separator.tree t2.tree.words t2.tree.declr closing.tree) closing.scopes closing.rest)
+    postfixed room (compat keyword.tree opening.tree t.tree.words t.tree.declr separator.tree t2.tree.words
+        t2.tree.declr closing.tree) closing.scopes closing.rest)
 
   -- Choose = __builtin_choose_expr ( assign , assign , assign )
   unfoldable pub choose_with : ℕ → Reader Expr
@@ -372,7 +384,8 @@ module _ (inner : Inner) where
     separator2 ← token_at is_comma e2.scopes e2.rest
     e3 ← inner.expr Assigned nothing (room - 1) separator2.scopes separator2.rest
     closing ← token_at is_close_paren e3.scopes e3.rest
-    postfixed room (choose keyword.tree opening.tree e.tree separator.tree e2.tree separator2.tree e3.tree closing.tree) closing.scopes closing.rest)
+    postfixed room (choose keyword.tree opening.tree e.tree separator.tree e2.tree separator2.tree e3.tree closing.tree)
+        closing.scopes closing.rest)
 
   -- Assoc = default : assign
   unfoldable pub default_assoc_with : ℕ → Reader Assoc
@@ -410,7 +423,8 @@ module _ (inner : Inner) where
     separator ← token_at is_comma e.scopes e.rest
     xs ← listed (assoc_with (room - 1)) (next_assoc (room - 1)) separator.scopes separator.rest
     closing ← token_at is_close_paren xs.scopes xs.rest
-    postfixed room (generic keyword.tree opening.tree e.tree (assocs_from xs.tree.items) closing.tree) closing.scopes closing.rest)
+    postfixed room
+        (generic keyword.tree opening.tree e.tree (assocs_from xs.tree.items) closing.tree) closing.scopes closing.rest)
 
   -- VaArg = __builtin_va_arg ( assign , TypeName )
   unfoldable pub va_arg_with : ℕ → Reader Expr
@@ -421,7 +435,8 @@ module _ (inner : Inner) where
     separator ← token_at is_comma e.scopes e.rest
     t ← inner.type_name (room - 1) separator.scopes separator.rest
     closing ← token_at is_close_paren t.scopes t.rest
-    postfixed room (va_arg keyword.tree opening.tree e.tree separator.tree t.tree.words t.tree.declr closing.tree) closing.scopes closing.rest)
+    postfixed room (va_arg keyword.tree opening.tree e.tree separator.tree t.tree.words t.tree.declr closing.tree)
+        closing.scopes closing.rest)
 
   -- VaStart = __builtin_va_start ( assign , assign ), and VaCopy likewise
   unfoldable pub va_two_with : (ℕ → ℕ → Expr → ℕ → Expr → ℕ → Expr) → ℕ → Reader Expr
@@ -432,14 +447,17 @@ module _ (inner : Inner) where
     separator ← token_at is_comma e.scopes e.rest
     e2 ← inner.expr Assigned nothing (room - 1) separator.scopes separator.rest
     closing ← token_at is_close_paren e2.scopes e2.rest
-    postfixed room (make keyword.tree opening.tree e.tree separator.tree e2.tree closing.tree) closing.scopes closing.rest)
+    postfixed room
+        (make keyword.tree opening.tree e.tree separator.tree e2.tree closing.tree) closing.scopes closing.rest)
 
   -- a step of an offset: . Name or [ expr ]
   unfoldable pub step_with : ℕ → Reader Desig
   step_with room s ts =
       if is_dot (kind_at ts)
-      then (take_one s ts >>= λ token. name_at token.scopes token.rest >>= λ name. ends (member_desig token.tree name.tree) name.scopes name.rest)
-      else take_one s ts >>= λ opening. inner.expr Whole nothing (room - 1) opening.scopes opening.rest >>= λ e. token_at is_close_bracket e.scopes e.rest >>= λ closing.
+      then (take_one s ts >>= λ token. name_at token.scopes token.rest >>= λ name.
+      ends (member_desig token.tree name.tree) name.scopes name.rest)
+      else take_one s ts >>= λ opening. inner.expr Whole nothing (room - 1) opening.scopes opening.rest >>= λ e.
+      token_at is_close_bracket e.scopes e.rest >>= λ closing.
       ends (index_desig opening.tree e.tree closing.tree) closing.scopes closing.rest
 
   -- Offset = __builtin_offsetof ( TypeName , Name (. Name | [ expr ])* )
@@ -452,11 +470,13 @@ module _ (inner : Inner) where
     name ← name_at separator.scopes separator.rest
     steps ← repeated begins_desig (step_with room) name.scopes name.rest
     closing ← token_at is_close_paren steps.scopes steps.rest
-    postfixed room (offset keyword.tree opening.tree t.tree.words t.tree.declr separator.tree name.tree (desigs_from steps.tree) closing.tree) closing.scopes closing.rest)
+    postfixed room (offset keyword.tree opening.tree t.tree.words t.tree.declr separator.tree name.tree
+        (desigs_from steps.tree) closing.tree) closing.scopes closing.rest)
 
   -- a name in an expression is no typedef name
   abbrev pub name_with : ℕ → ℕ → Reader Expr
-  name_with name room s ts = if names_type s name then refuses Unexpected ts else primary_with (λ token. name_use token name) room s ts
+  name_with name room s ts =
+      if names_type s name then refuses Unexpected ts else primary_with (λ token. name_use token name) room s ts
 
   -- a unary form by what it begins with
   unfoldable pub unary_by : Opening → ℕ → Reader Expr
@@ -490,11 +510,13 @@ module _ (inner : Inner) where
   -- the first operand, behind what of it was read already
   unfoldable pub operand_with : Begun → ℕ → Reader Expr
   operand_with nothing room s ts = cast_with room s ts
-  operand_with (extensions tokens) room s ts = cast_with (room - length tokens) s ts >>= λ e. ends (extended tokens e.tree) e.scopes e.rest
-  operand_with (star token) room s ts = cast_with (room - 1) s ts >>= λ e. ends (prefix token puncts.Star e.tree) e.scopes e.rest
+  operand_with (extensions tokens) room s ts =
+      cast_with (room - length tokens) s ts >>= λ e. ends (extended tokens e.tree) e.scopes e.rest
+  operand_with (star token) room s ts =
+      cast_with (room - 1) s ts >>= λ e. ends (prefix token puncts.Star e.tree) e.scopes e.rest
 
   -- an operator, for which the left side and those that wait must leave room, and the operand behind it
-  abbrev pub operation_with : Operator → Settled → ℕ → Reader Row
+  abbrev pub operation_with : Operator → Settled → ℕ → Reader OperandRow
   operation_with op left room s ts = fits (depth_of left + expr_height left.last) room ts (do
     token ← take_one s ts
     e ← cast_with (room - depth_of left) token.scopes token.rest
@@ -507,7 +529,7 @@ module _ (inner : Inner) where
       else inner.expr Whole nothing room s ts >>= λ e. ends (some_expr e.tree) e.scopes e.rest
 
   -- ? [expr] : and the operand behind it
-  abbrev pub question_with : Settled → ℕ → Reader Row
+  abbrev pub question_with : Settled → ℕ → Reader OperandRow
   question_with left room s ts = fits (depth_of left + expr_height left.last) room ts (do
     token ← take_one s ts
     middle ← middle_with (room - depth_of left) token.scopes token.rest
@@ -516,21 +538,24 @@ module _ (inner : Inner) where
     ends (with_operand left (cond middle.tree colon.tree) token.tree e.tree) e.scopes e.rest)
 
   -- an assignment is refused where its left side is no unary form, and else ends a conditional
-  abbrev pub assign_with : Reach → Punct → Settled → ℕ → HeldScopes → List Lexeme → Option (Read Row)
+  abbrev pub assign_with : Reach → Punct → Settled → ℕ → HeldScopes → List Lexeme → Option (Read OperandRow)
   assign_with reach p left room s ts =
-      if nat_le 14 (expr_level left.last) then (if takes_assign reach then Some (operation_with (assign p) left room s ts) else None)
+      if nat_le 14 (expr_level left.last)
+      then (if takes_assign reach then Some (operation_with (assign p) left room s ts) else None)
       else Some (refuses BadTarget ts)
 
   -- one operator and the operand behind it, as far as the reach goes; none where the expression ends
-  abbrev pub operation_by : Reach → ℕ → Infix → Turn Row
-  operation_by reach room infixes.Comma row s ts = if takes_comma reach then Some (operation_with comma (settled row 0) room s ts) else None
+  abbrev pub operation_by : Reach → ℕ → Infix → Turn OperandRow
+  operation_by reach room infixes.Comma row s ts =
+      if takes_comma reach then Some (operation_with comma (settled row 0) room s ts) else None
   operation_by reach room (infixes.Assign p) row s ts = assign_with reach p (settled row 1) room s ts
   operation_by reach room infixes.Question row s ts = Some (question_with (settled row 2) room s ts)
-  operation_by reach room (infixes.Binary p) row s ts = Some (operation_with (binary p) (settled row (binary_level p + 2)) room s ts)
+  operation_by reach room (infixes.Binary p) row s ts =
+      Some (operation_with (binary p) (settled row (binary_level p + 2)) room s ts)
   operation_by reach room infixes.Nothing row s ts = None
 
   -- one operator and the operand behind it, by the token there
-  abbrev pub operation_turn : Reach → ℕ → Turn Row
+  abbrev pub operation_turn : Reach → ℕ → Turn OperandRow
   operation_turn reach room row s ts = operation_by reach room (infix_of (kind_at ts)) row s ts
 
   -- operands and operators in turn, and the tree of them

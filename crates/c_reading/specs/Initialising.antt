@@ -3,7 +3,7 @@ use Rattle.std.specs.Prelude.{ℕ, ◌-◌, Bool, ◌&&◌, ◌||◌, [], Option
 use Rattle.c_words.specs.declared.kinds.TokenKind.{TokenKind}
 use Rattle.c_tree.specs.Tree.{Expr, Init, init_value, init_braced, InitList, init_list, Desigs, no_desigs, more_desigs, Desig, member_desig, index_desig, range_desig, old_desig}
 use Rattle.c_units.specs.HeldScopes.{HeldScopes, is_wide, names_type}
-use Rattle.c_reading.specs.declared.kinds.Fault.TheVariants.{Unexpected}
+use Rattle.c_reading.specs.declared.kinds.FaultKind.TheVariants.{Unexpected}
 use Rattle.c_reading.specs.declared.kinds.Reach.TheVariants.{Assigned, Conditional}
 use Rattle.c_reading.specs.Reading.{Reader, ◌>>=◌, ends, refuses, fits, kind_at, behind_first, take_one, token_at, repeated, listed, Next, one_more, list_end, CommaList}
 use Rattle.c_reading.specs.Tokens.{is_open_brace, is_close_brace, is_close_bracket, is_colon, is_dots, is_equal, spelled_name, name_at}
@@ -17,13 +17,15 @@ begins_init s kind = is_open_brace kind || begins_expr s kind
 -- `=` behind designators
 abbrev pub equal_behind : Desigs → Reader (Option ℕ)
 equal_behind no_desigs s ts = ends None s ts
-equal_behind (more_desigs d ds) s ts = token_at is_equal s ts >>= λ equal. ends (Some equal.tree) equal.scopes equal.rest
+equal_behind (more_desigs d ds) s ts =
+    token_at is_equal s ts >>= λ equal. ends (Some equal.tree) equal.scopes equal.rest
 
 module _ (inner : Inner) where
   -- init = assign | InitList
   unfoldable pub init_with : ℕ → Reader Init
   init_with room s ts =
-      if is_open_brace (kind_at ts) then (inner.init_list room s ts >>= λ list. ends (init_braced list.tree) list.scopes list.rest)
+      if is_open_brace (kind_at ts)
+      then (inner.init_list room s ts >>= λ list. ends (init_braced list.tree) list.scopes list.rest)
       else inner.expr Assigned nothing room s ts >>= λ e. ends (init_value e.tree) e.scopes e.rest
 
   -- Desig = . Name
@@ -45,7 +47,8 @@ module _ (inner : Inner) where
   unfoldable pub index_behind : ℕ → Expr → ℕ → Reader Desig
   index_behind opening e room s ts =
       if is_wide s && is_dots (kind_at ts) then range_behind opening e room s ts
-      else token_at is_close_bracket s ts >>= λ closing. ends (index_desig opening e closing.tree) closing.scopes closing.rest
+      else token_at is_close_bracket s ts >>= λ closing.
+      ends (index_desig opening e closing.tree) closing.scopes closing.rest
 
   -- Desig = [ cond ] or [ cond ... cond ], at the bracket
   unfoldable pub index_desig_with : ℕ → Reader Desig
@@ -60,7 +63,8 @@ module _ (inner : Inner) where
 
   -- the initialiser of an item
   unfoldable pub init_here : ℕ → Reader Init
-  init_here room s ts = if begins_init s (kind_at ts) then fits 2 room ts (init_with (room - 1) s ts) else refuses Unexpected ts
+  init_here room s ts =
+      if begins_init s (kind_at ts) then fits 2 room ts (init_with (room - 1) s ts) else refuses Unexpected ts
 
   -- OldDesig init, at the name
   unfoldable pub old_item : ℕ → Reader ListItem
@@ -68,7 +72,8 @@ module _ (inner : Inner) where
     name ← name_at s ts
     colon ← token_at is_colon name.scopes name.rest
     init ← init_here room colon.scopes colon.rest
-    ends (record { desigs = more_desigs (old_desig name.tree colon.tree) no_desigs; equal = None; init = init.tree }) init.scopes init.rest
+    ends (record { desigs = more_desigs (old_desig name.tree colon.tree) no_desigs; equal = None; init = init.tree })
+        init.scopes init.rest
 
   -- InitItem = [Desig+ =] init
   unfoldable pub plain_item : ℕ → Reader ListItem
@@ -112,7 +117,8 @@ module _ (inner : Inner) where
     opening ← take_one s ts
     items ← init_items_with (room - 1) opening.scopes opening.rest
     closing ← token_at is_close_brace items.scopes items.rest
-    ends (init_list opening.tree (init_items_from items.tree.items) items.tree.ending closing.tree) closing.scopes closing.rest)
+    ends (init_list opening.tree
+        (init_items_from items.tree.items) items.tree.ending closing.tree) closing.scopes closing.rest)
 
   -- InitList = { [InitItem (, InitItem)* [,]] }
   unfoldable pub init_list_with : ℕ → Reader InitList

@@ -11,7 +11,7 @@ use Rattle.c_tree.specs.Unit.{Item, function_item, old_function_item, decl_item,
 use Rattle.typedef_scope.specs.declared.kind.Kind.TheVariants.{Value}
 use Rattle.c_units.specs.HeldScopes.{HeldScope, enter, innermost, leave, reopen, release}
 use Rattle.c_units.specs.Scoping.{has_typedef_word}
-use Rattle.c_reading.specs.declared.kinds.Fault.TheVariants.{Unexpected}
+use Rattle.c_reading.specs.declared.kinds.FaultKind.TheVariants.{Unexpected}
 use Rattle.c_reading.specs.declared.kinds.Mode.TheVariants.{Named}
 use Rattle.c_reading.specs.Reading.{Reader, Read, ◌>>=◌, ends, refuses, fits, kind_at, take_one, token_at, repeated}
 use Rattle.c_reading.specs.Tokens.{is_comma, is_equal, is_semicolon, is_asm, is_open_brace, is_end, is_static_assert, extensions_at, attrs_at, group_at, assert_at}
@@ -32,7 +32,8 @@ module _ (inner : Inner) where
   unfoldable pub function_with : List ℕ → SpecWords → Declr → List Attr → HeldScope → ℕ → Reader Item
   function_with exts words d attrs closed room s ts = do
     body ← block_body inner (room - 1) (reopen closed s) ts
-    ends (function_item exts words d attrs body.tree.opening body.tree.items body.tree.closing) (leave body.scopes) body.rest
+    ends (function_item exts words d attrs body.tree.opening body.tree.items body.tree.closing)
+        (leave body.scopes) body.rest
 
   -- [= init], behind a declarator and attributes
   unfoldable pub attrs_behind : Declr → List Attr → ℕ → Reader DeclrItem
@@ -41,20 +42,21 @@ module _ (inner : Inner) where
     ends (record { before = []; declr = d; label = None; attrs = attrs; init = init.tree }) init.scopes init.rest
 
   -- behind the declarator of a function and attributes: its block, or a declaration that goes on, for which there must
-  -- be
-  -- room
+  -- be room
   unfoldable pub function_or_not : List ℕ → SpecWords → Declr → List Attr → HeldScope → ℕ → Reader Item
   function_or_not exts words d attrs closed room s ts =
       if is_open_brace (kind_at ts) then function_with exts words d attrs closed room s ts
       else if goes_on_declared (kind_at ts)
-      then fits (2 + declr_height d) room ts (as_decl (declrs_with inner exts words Value room (attrs_behind d attrs (room - 1)) s ts))
+      then fits (2 + declr_height d) room ts
+      (as_decl (declrs_with inner exts words Value room (attrs_behind d attrs (room - 1)) s ts))
       else refuses Unexpected ts
 
   -- behind a declarator with parameters directly around its name
   unfoldable pub behind_function : List ℕ → SpecWords → Declr → HeldScope → ℕ → Reader Item
   behind_function exts words d closed room s ts =
       if is_asm (kind_at ts)
-      then fits (2 + declr_height d) room ts (as_decl (declrs_with inner exts words Value room (declr_behind inner [] d (room - 1)) s ts))
+      then fits (2 + declr_height d) room ts
+      (as_decl (declrs_with inner exts words Value room (declr_behind inner [] d (room - 1)) s ts))
       else attrs_at room s ts >>= λ attrs. function_or_not exts words d attrs.tree closed room attrs.scopes attrs.rest
 
   -- behind the first declarator of an item: a function's body may come where parameters stand around its name
@@ -70,14 +72,14 @@ module _ (inner : Inner) where
     declaration_behind inner exts.tree words.tree room words.scopes words.rest
 
   -- Attr* Declaration* Block, behind a declarator with a list of identifiers, whose name is held: the declarations
-  -- stand in the scope of
-  -- the parameters, and the name is declared behind the last
+  -- stand in the scope of the parameters, and the name is declared behind the last
   unfoldable pub old_function_with : List ℕ → SpecWords → Declr → ℕ → Reader Item
   old_function_with exts words d room s ts = do
     attrs ← attrs_at room s ts
     ds ← repeated (λ kind. not (is_open_brace kind)) (old_declaration (room - 1)) (enter attrs.scopes) attrs.rest
     body ← block_body inner (room - 1) (reopen (innermost ds.scopes) (release Value (leave ds.scopes))) ds.rest
-    ends (old_function_item exts words d attrs.tree ds.tree body.tree.opening body.tree.items body.tree.closing) (leave body.scopes) body.rest
+    ends (old_function_item exts words d attrs.tree ds.tree body.tree.opening body.tree.items body.tree.closing)
+        (leave body.scopes) body.rest
 
   -- a Function or a Declaration, behind the words without `typedef`
   unfoldable pub first_declr : List ℕ → SpecWords → ℕ → Reader Item
@@ -93,7 +95,8 @@ module _ (inner : Inner) where
     exts ← extensions_at room s ts
     words ← specs_here inner Declaring room exts.scopes exts.rest
     if has_auto words.tree then as_decl (declaration_behind inner exts.tree words.tree room words.scopes words.rest)
-        else if is_semicolon (kind_at words.rest) then as_decl (bare_declaration inner exts.tree words.tree room words.scopes words.rest)
+        else if is_semicolon (kind_at words.rest)
+        then as_decl (bare_declaration inner exts.tree words.tree room words.scopes words.rest)
         else if has_typedef_word (storage_words words.tree) then as_decl (declaration_behind inner exts.tree words.tree room words.scopes words.rest)
         else first_declr exts.tree words.tree room words.scopes words.rest
 
@@ -108,9 +111,11 @@ module _ (inner : Inner) where
   -- item = Function | decl | AsmDecl | Semi
   unfoldable pub item_with : ℕ → Reader Item
   item_with room s ts =
-      if is_semicolon (kind_at ts) then fits 1 room ts (take_one s ts >>= λ semi. ends (semi_item (record { token = semi.tree })) semi.scopes semi.rest)
+      if is_semicolon (kind_at ts) then fits 1 room ts
+      (take_one s ts >>= λ semi. ends (semi_item (record { token = semi.tree })) semi.scopes semi.rest)
       else if is_asm (kind_at ts) then fits 1 room ts (asm_item_with s ts)
-      else if is_static_assert (kind_at ts) then fits 1 room ts (assert_at s ts >>= λ it. ends (decl_item (decl_assert it.tree)) it.scopes it.rest)
+      else if is_static_assert (kind_at ts)
+      then fits 1 room ts (assert_at s ts >>= λ it. ends (decl_item (decl_assert it.tree)) it.scopes it.rest)
       else declared_item room s ts
 
   -- Unit = item*, up to the end

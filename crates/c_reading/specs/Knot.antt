@@ -1,13 +1,12 @@
 -- The readers of all nonterminals, each over the readers of lower trees.
 --
 -- Readers of number n read trees with a room of at most n, for each part inside has at most one less. At room 0 no
--- reader
--- goes inside, so those of number 0 stand over readers that none calls.
+-- reader goes inside, so those of number 0 stand over readers that none calls.
 use Rattle.std.specs.Prelude.{ℕ, zero, suc, ◌-◌, List, [], ◌∷◌, Bool}
 use Rattle.c_tree.specs.declared.lexeme.Lexeme.{Lexeme}
 use Rattle.c_tree.specs.Unit.{Item}
 use Rattle.c_units.specs.HeldScopes.{file_scope}
-use Rattle.c_reading.specs.declared.kinds.Fault.TheVariants.{Unexpected}
+use Rattle.c_reading.specs.declared.kinds.FaultKind.TheVariants.{Unexpected}
 use Rattle.c_reading.specs.Reading.{Read, ◌>>=◌, ends, refuses, token_at}
 use Rattle.c_reading.specs.Tokens.{is_end}
 use Rattle.c_reading.specs.Specifying.{specs_with}

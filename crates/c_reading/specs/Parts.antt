@@ -1,6 +1,5 @@
 -- What readers answer that is no tree of its own, the lists of trees as lists of their items, and the readers of the
--- parts
--- inside, which each reader stands over.
+-- parts inside, which each reader stands over.
 use Rattle.std.specs.Prelude.{ℕ, ◌+◌, max, Bool, List, [], ◌∷◌, Option}
 use Rattle.c_syntax.specs.declared.parts.Identifier.{Identifier}
 use Rattle.c_syntax.specs.declared.parts.Attr.{Attr}
@@ -9,7 +8,7 @@ use Rattle.c_tree.specs.Tree.{Expr, Exprs, no_exprs, more_exprs, SpecWords, Stru
 use Rattle.c_tree.specs.Height.{specs_height, some_declr_height}
 use Rattle.typedef_scope.specs.declared.kind.Kind.{Kind}
 use Rattle.c_units.specs.HeldScopes.{HeldScope}
-use Rattle.c_reading.specs.declared.kinds.Fault.TheVariants.{Unexpected}
+use Rattle.c_reading.specs.declared.kinds.FaultKind.TheVariants.{Unexpected}
 use Rattle.c_reading.specs.declared.kinds.Reach.{Reach}
 use Rattle.c_reading.specs.declared.kinds.Role.{Role}
 use Rattle.c_reading.specs.declared.kinds.Mode.{Mode}

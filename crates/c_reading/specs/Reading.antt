@@ -5,12 +5,12 @@ use Rattle.c_words.specs.declared.kinds.TokenKind.TheVariants as kinds
 use Rattle.c_words.specs.declared.kinds.Punct.TheVariants.{Comma}
 use Rattle.c_tree.specs.declared.lexeme.Lexeme.{Lexeme}
 use Rattle.c_units.specs.HeldScopes.{HeldScopes}
-use Rattle.c_reading.specs.declared.kinds.Fault.{Fault}
-use Rattle.c_reading.specs.declared.kinds.Fault.TheVariants.{Unexpected, TooDeep}
+use Rattle.c_reading.specs.declared.kinds.FaultKind.{FaultKind}
+use Rattle.c_reading.specs.declared.kinds.FaultKind.TheVariants.{Unexpected, TooDeep}
 
 -- what is wrong, and the number of the token that is refused
 abbrev pub Refusal : Type 0
-Refusal = Fault × ℕ
+Refusal = FaultKind × ℕ
 
 -- what was read, with the scopes and the tokens behind it
 pub record Found (A : Type 0) : Type 0 where
@@ -46,7 +46,7 @@ number_at [] = 0
 number_at (t ∷ ts) = t.at
 
 -- the first token is refused
-abbrev pub refuses : {A : Type 0} → Fault → List Lexeme → Read A
+abbrev pub refuses : {A : Type 0} → FaultKind → List Lexeme → Read A
 refuses fault ts = Err (fault, number_at ts)
 
 -- the least height of what begins so is within the room that is left
@@ -80,7 +80,8 @@ Turn S = S → HeldScopes → List Lexeme → Option (Read S)
 -- at most so many turns
 unfoldable pub turns : {S : Type 0} → Turn S → ℕ → S → Reader S
 turns turn zero a s ts = ends a s ts
-turns turn (suc n) a s ts = elim (turn a s ts) [ None ↦ ends a s ts | Some read ↦ read >>= λ x. turns turn n x.tree x.scopes x.rest ]
+turns turn (suc n) a s ts =
+    elim (turn a s ts) [ None ↦ ends a s ts | Some read ↦ read >>= λ x. turns turn n x.tree x.scopes x.rest ]
 
 -- turns until the loop ends; each takes a token at least
 unfoldable pub run : {S : Type 0} → Turn S → S → Reader S
@@ -88,7 +89,8 @@ run turn a s ts = turns turn (suc (length ts)) a s ts
 
 -- one more item, where a token that passes a test begins one
 abbrev pub repeated_turn : {T : Type 0} → (TokenKind → Bool) → Reader T → Turn (List T)
-repeated_turn begins read xs s ts = if begins (kind_at ts) then Some (read s ts >>= λ x. ends (xs ++ x.tree ∷ []) x.scopes x.rest) else None
+repeated_turn begins read xs s ts =
+    if begins (kind_at ts) then Some (read s ts >>= λ x. ends (xs ++ x.tree ∷ []) x.scopes x.rest) else None
 
 -- items one behind another, as long as a token that passes a test begins one; their list
 unfoldable pub repeated : {T : Type 0} → (TokenKind → Bool) → Reader T → Reader (List T)
@@ -119,7 +121,8 @@ abbrev pub comma_turn_by : {T E : Type 0} → (ℕ → Reader (Next T E)) → Op
     → Option (Read (CommaList T E))
 comma_turn_by behind (Some e) xs s ts = None
 comma_turn_by behind None xs s [] = None
-comma_turn_by behind None xs s (t ∷ ts) = if is_comma t.kind then Some (behind t.at s ts >>= λ x. ends (with_next xs x.tree) x.scopes x.rest) else None
+comma_turn_by behind None xs s (t ∷ ts) =
+    if is_comma t.kind then Some (behind t.at s ts >>= λ x. ends (with_next xs x.tree) x.scopes x.rest) else None
 
 -- one more item of a list, where a comma stands and nothing ended the list
 abbrev pub comma_turn : {T E : Type 0} → (ℕ → Reader (Next T E)) → Turn (CommaList T E)
@@ -127,7 +130,8 @@ comma_turn behind state s ts = comma_turn_by behind state.ending state.items s t
 
 -- one item, and behind each comma one more or the end of the list
 unfoldable pub listed : {T E : Type 0} → Reader T → (ℕ → Reader (Next T E)) → Reader (CommaList T E)
-listed first behind s ts = first s ts >>= λ x. run (comma_turn behind) (record { items = x.tree ∷ []; ending = None }) x.scopes x.rest
+listed first behind s ts =
+    first s ts >>= λ x. run (comma_turn behind) (record { items = x.tree ∷ []; ending = None }) x.scopes x.rest
 
 -- each token has the number of its place
 abbrev pub IsNumbered : List Lexeme → Type 0

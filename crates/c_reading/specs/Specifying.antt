@@ -19,7 +19,7 @@ use Rattle.c_units.specs.Scoping.{has_typedef_word}
 use Rattle.typedef_scope.specs.declared.kind.Kind.{Kind}
 use Rattle.typedef_scope.specs.declared.kind.Kind.TheVariants.{Constant}
 use Rattle.c_units.specs.HeldScopes.{HeldScopes, is_wide, names_type, innermost, may_declare, is_name, declare}
-use Rattle.c_reading.specs.declared.kinds.Fault.TheVariants.{Unexpected, Redeclared, BadMix}
+use Rattle.c_reading.specs.declared.kinds.FaultKind.TheVariants.{Unexpected, Redeclared, BadMix}
 use Rattle.c_reading.specs.declared.kinds.Reach.TheVariants.{Whole, Conditional}
 use Rattle.c_reading.specs.declared.kinds.Role.{Role}
 use Rattle.c_reading.specs.declared.kinds.Role.TheVariants.{Declaring, Typed, Naming}
@@ -154,7 +154,8 @@ is_base_start start = false
 -- whether specifiers end before a base word, which is then the name of a typedef
 abbrev pub ends_before : HeldScopes → SpecWords → SpecStart → Bool
 ends_before s words start =
-    (is_wide s || has_auto words) && is_base_start start && has_typedef_word (storage_words words) && is_whole_mix words && not (goes_on words (class_of_start start))
+    (is_wide s || has_auto words) && is_base_start start && has_typedef_word (storage_words words) && is_whole_mix words
+    && not (goes_on words (class_of_start start))
 
 -- without a body a tag must stand
 abbrev pub without_body : {A : Type 0} → Option Identifier → A → Reader A
@@ -182,7 +183,8 @@ module _ (inner : Inner) where
   unfoldable pub value_with : (TokenKind → Bool) → ℕ → Reader SomeValue
   value_with test room s ts =
       if test (kind_at ts)
-      then fits 2 room ts (take_one s ts >>= λ token. inner.expr Conditional nothing (room - 1) token.scopes token.rest >>= λ e.
+      then fits 2 room ts (take_one s ts >>= λ token.
+      inner.expr Conditional nothing (room - 1) token.scopes token.rest >>= λ e.
       ends (some_value token.tree e.tree) e.scopes e.rest)
       else ends no_value s ts
 
@@ -244,7 +246,8 @@ module _ (inner : Inner) where
   unfoldable pub struct_item_with : ℕ → Reader StructItem
   struct_item_with room s ts =
       if is_semicolon (kind_at ts)
-      then fits 1 room ts (take_one s ts >>= λ semi. ends (member_semi (record { token = semi.tree })) semi.scopes semi.rest)
+      then fits 1 room ts
+      (take_one s ts >>= λ semi. ends (member_semi (record { token = semi.tree })) semi.scopes semi.rest)
       else if is_static_assert (kind_at ts)
       then fits 1 room ts (assert_at s ts >>= λ it. ends (member_assert it.tree) it.scopes it.rest)
       else member_with room s ts
@@ -275,13 +278,15 @@ module _ (inner : Inner) where
   enumerator_behind name room s ts = do
     attrs ← attrs_at room s ts
     value ← value_with is_equal room attrs.scopes attrs.rest
-    declared (record { name = name; attrs = attrs.tree; value = value.tree }) (declare name.name Constant value.scopes) value.rest
+    declared (record { name = name; attrs = attrs.tree; value = value.tree })
+        (declare name.name Constant value.scopes) value.rest
 
   -- a name that its scope gives another kind, or that is held there, is refused at once
   unfoldable pub enumerator_named : Identifier → ℕ → List Lexeme → Reader EnumItem
   enumerator_named name room at s ts =
       if may_declare (innermost s) name.name Constant
-      then (if is_name (innermost s).held name.name then refuses Unexpected at else fits 1 room at (enumerator_behind name room s ts))
+      then (if is_name (innermost s).held name.name then refuses Unexpected at
+      else fits 1 room at (enumerator_behind name room s ts))
       else refuses Redeclared at
 
   -- Enumerator = Name Attr* [= cond]
@@ -302,11 +307,13 @@ module _ (inner : Inner) where
     opening ← take_one s ts
     es ← listed (enumerator_with (room - 1)) (next_enumerator (room - 1)) opening.scopes opening.rest
     closing ← token_at is_close_brace es.scopes es.rest
-    ends (some_enum_body opening.tree (enumerators_from es.tree.items) es.tree.ending closing.tree) closing.scopes closing.rest)
+    ends (some_enum_body opening.tree
+        (enumerators_from es.tree.items) es.tree.ending closing.tree) closing.scopes closing.rest)
 
   -- [{ Enumerator (, Enumerator)* [,] }], behind a tag or none
   unfoldable pub enum_body_with : Option Identifier → ℕ → Reader SomeEnumBody
-  enum_body_with tag room s ts = if is_open_brace (kind_at ts) then enumerators_with room s ts else without_body tag no_enum_body s ts
+  enum_body_with tag room s ts =
+      if is_open_brace (kind_at ts) then enumerators_with room s ts else without_body tag no_enum_body s ts
 
   -- Enum = enum Attr* [Name] [{ Enumerator (, Enumerator)* [,] }]
   unfoldable pub enum_with : ℕ → Reader SpecWord
@@ -322,7 +329,8 @@ module _ (inner : Inner) where
   typed_word_with keyword token opening room s ts = do
     t ← inner.type_name (room - 1) s ts
     closing ← token_at is_close_paren t.scopes t.rest
-    ends (typeof_type (word_of keyword token) opening t.tree.words t.tree.declr closing.tree) closing.scopes closing.rest
+    ends
+        (typeof_type (word_of keyword token) opening t.tree.words t.tree.declr closing.tree) closing.scopes closing.rest
 
   -- Typeof = typeof ( expr ), behind the parenthesis
   unfoldable pub typeof_value_with : ℕ → ℕ → ℕ → Reader SpecWord
@@ -352,8 +360,7 @@ module _ (inner : Inner) where
   word_at make s ts = take_one s ts >>= λ token. ends (make token.tree) token.scopes token.rest
 
   -- spec = storage | thread | inline | _Noreturn | qual | typeword | Struct | Enum | TypedefName | Attr, by what its
-  -- first
-  -- token begins
+  -- first token begins
   unfoldable pub word_by : SpecStart → ℕ → Reader SpecWord
   word_by (starts.Storage keyword) room s ts = word_at (λ token. storage (word_of keyword token)) s ts
   word_by starts.Thread room s ts = word_at thread s ts
@@ -377,14 +384,16 @@ module _ (inner : Inner) where
   unfoldable pub word_with : Role → SpecWords → SpecStart → ℕ → Reader SpecWord
   word_with role words start room s ts =
       if may_stand role start
-      then (if goes_on words (class_of_start start) then fits (max (least_of start) (specs_height words)) room ts (word_by start room s ts) else refuses BadMix ts)
+      then (if goes_on words (class_of_start start)
+      then fits (max (least_of start) (specs_height words)) room ts (word_by start room s ts) else refuses BadMix ts)
       else refuses Unexpected ts
 
   -- one more word of specifiers, by what the token begins; none where they end
   abbrev pub word_turn_by : Role → ℕ → SpecStart → Turn SpecWords
   word_turn_by role room start words s ts =
       if ends_before s words start then None
-      else if is_start start then Some (word_with role words start room s ts >>= λ word. ends (pushed words word.tree) word.scopes word.rest)
+      else if is_start start
+      then Some (word_with role words start room s ts >>= λ word. ends (pushed words word.tree) word.scopes word.rest)
       else None
 
   -- one more word of specifiers, by the token there

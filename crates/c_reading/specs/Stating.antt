@@ -15,7 +15,7 @@ use Rattle.typedef_scope.specs.declared.kind.Kind.TheVariants.{Value}
 use Rattle.typedef_scope.specs.declared.kind.Kind.{Kind}
 use Rattle.c_units.specs.HeldScopes.{is_wide, names_type, enter, leave, release}
 use Rattle.c_units.specs.Scoping.{at_name, declared_kind, has_typedef_word}
-use Rattle.c_reading.specs.declared.kinds.Fault.TheVariants.{Unexpected}
+use Rattle.c_reading.specs.declared.kinds.FaultKind.TheVariants.{Unexpected}
 use Rattle.c_reading.specs.declared.kinds.Reach.TheVariants.{Whole, Assigned, Conditional}
 use Rattle.c_reading.specs.declared.kinds.Role.TheVariants.{Declaring}
 use Rattle.c_reading.specs.declared.kinds.StmtStart.{StmtStart}
@@ -64,14 +64,16 @@ in_own read s ts = read (enter s) ts >>= λ x. ends x.tree (leave x.scopes) x.re
 -- [asm bal]
 unfoldable pub label_at : Reader (Option AsmLabel)
 label_at s ts =
-    if is_asm (kind_at ts) then (take_one s ts >>= λ keyword. group_at keyword.scopes keyword.rest >>= λ group. ends (Some (record { keyword = keyword.tree; group = group.tree })) group.scopes group.rest)
+    if is_asm (kind_at ts) then (take_one s ts >>= λ keyword. group_at keyword.scopes keyword.rest >>= λ group.
+    ends (Some (record { keyword = keyword.tree; group = group.tree })) group.scopes group.rest)
     else ends None s ts
 
 module _ (inner : Inner) where
   -- [= init]
   unfoldable pub some_init_with : ℕ → Reader SomeInit
   some_init_with room s ts =
-      if is_equal (kind_at ts) then (take_one s ts >>= λ equal. init_with inner (room - 1) equal.scopes equal.rest >>= λ init. ends (some_init equal.tree init.tree) init.scopes init.rest)
+      if is_equal (kind_at ts) then (take_one s ts >>= λ equal. init_with inner (room - 1) equal.scopes equal.rest
+      >>= λ init. ends (some_init equal.tree init.tree) init.scopes init.rest)
       else ends no_init s ts
 
   -- [AsmLabel] Attr* [= init], behind a declarator whose name is declared
@@ -80,7 +82,8 @@ module _ (inner : Inner) where
     name ← label_at s ts
     attrs ← attrs_at room name.scopes name.rest
     init ← some_init_with room attrs.scopes attrs.rest
-    ends (record { before = before; declr = d; label = name.tree; attrs = attrs.tree; init = init.tree }) init.scopes init.rest
+    ends (record { before = before; declr = d; label = name.tree; attrs = attrs.tree; init = init.tree })
+        init.scopes init.rest
 
   -- InitDeclr = declr [AsmLabel] Attr* [= init]
   unfoldable pub init_declr_with : List Attr → Kind → ℕ → Reader DeclrItem
@@ -115,22 +118,32 @@ module _ (inner : Inner) where
     equal ← token_at is_equal attrs.scopes attrs.rest
     e ← inner.expr Assigned nothing (room - 1) equal.scopes equal.rest
     semi ← token_at is_semicolon (release Value e.scopes) e.rest
-    ends (declaration exts words (init_declrs_from (record { before = []; declr = d; label = None; attrs = attrs.tree; init = some_init equal.tree (init_value e.tree) } ∷ [])) semi.tree) semi.scopes semi.rest
+    ends (declaration exts words (init_declrs_from (record {
+      before = [];
+      declr = d;
+      label = None;
+      attrs = attrs.tree;
+      init = some_init equal.tree (init_value e.tree);
+    } ∷ [])) semi.tree) semi.scopes semi.rest
 
   -- the name behind `__auto_type`, which is held
   abbrev pub auto_name : Option ℕ → ℕ → Reader Declr
   auto_name None room s ts = refuses Unexpected ts
-  auto_name (Some name) room s ts = name_held name room (at_name (Some Value) name s) s ts >>= λ d. present d.tree.declr d.scopes d.rest
+  auto_name (Some name) room s ts =
+      name_held name room (at_name (Some Value) name s) s ts >>= λ d. present d.tree.declr d.scopes d.rest
 
   -- behind `typedef` a base word stands in the place of the name
   abbrev pub auto_declarator : Bool → ℕ → Reader Declr
-  auto_declarator true room s ts = if is_base_word (kind_at ts) then fits 1 room ts (take_one s ts >>= λ token. ends (base_name token.tree) token.scopes token.rest) else refuses Unexpected ts
+  auto_declarator true room s ts =
+      if is_base_word (kind_at ts) then fits 1 room ts
+      (take_one s ts >>= λ token. ends (base_name token.tree) token.scopes token.rest) else refuses Unexpected ts
   auto_declarator false room s ts = auto_name (spelled_name (kind_at ts)) room s ts
 
   -- AutoDeclr ;  behind words with `__auto_type`
   unfoldable pub auto_behind : List ℕ → SpecWords → ℕ → Reader Declaration
   auto_behind exts words room s ts =
-      auto_declarator (has_typedef_word (storage_words words)) (room - 2) s ts >>= λ d. auto_declr exts words d.tree (room - 1) d.scopes d.rest
+      auto_declarator (has_typedef_word (storage_words words)) (room - 2) s ts >>= λ d.
+      auto_declr exts words d.tree (room - 1) d.scopes d.rest
 
   -- [InitDeclr (, Attr* InitDeclr)*] ;  behind the words, or AutoDeclr ;
   unfoldable pub declaration_behind : List ℕ → SpecWords → ℕ → Reader Declaration
@@ -180,7 +193,8 @@ module _ (inner : Inner) where
   named_item name room s ts = fits 2 room ts (
       if is_colon (kind_at (behind_first ts)) then as_stmt (label_with room s ts)
       else if names_type s name
-      then (take_one s ts >>= λ token. as_item (declaration_from (more_words (typedef_name (record { token = token.tree; name = name })) no_words) room token.scopes token.rest))
+      then (take_one s ts >>= λ token. as_item (declaration_from
+      (more_words (typedef_name (record { token = token.tree; name = name })) no_words) room token.scopes token.rest))
       else as_stmt (expr_stmt_with nothing room s ts))
 
   -- a declaration or an expression behind ext+, by the token there
@@ -193,7 +207,8 @@ module _ (inner : Inner) where
   -- AttrStmt = Attr+ ;  or a declaration that begins with the attributes, by the token behind them
   unfoldable pub attr_item_by : List Attr → ℕ → Reader BlockItem
   attr_item_by attrs room s ts =
-      if is_semicolon (kind_at ts) then (take_one s ts >>= λ semi. ends (block_stmt (attr_stmt attrs semi.tree)) semi.scopes semi.rest)
+      if is_semicolon (kind_at ts)
+      then (take_one s ts >>= λ semi. ends (block_stmt (attr_stmt attrs semi.tree)) semi.scopes semi.rest)
       else if begins_specs s (kind_at ts) then as_item (declaration_from (words_of_attrs attrs) room s ts)
       else refuses Unexpected ts
 
@@ -211,7 +226,8 @@ module _ (inner : Inner) where
   -- an item of a block: decl | stmt
   unfoldable pub block_item_with : ℕ → Reader BlockItem
   block_item_with room s ts =
-      if is_static_assert (kind_at ts) then fits 1 room ts (assert_at s ts >>= λ it. ends (block_decl (decl_assert it.tree)) it.scopes it.rest)
+      if is_static_assert (kind_at ts)
+      then fits 1 room ts (assert_at s ts >>= λ it. ends (block_decl (decl_assert it.tree)) it.scopes it.rest)
       else if is_extension (kind_at ts) then extended_item room s ts
       else if is_attribute (kind_at ts) then attr_item room s ts
       else other_item (spelled_name (kind_at ts)) room s ts
@@ -231,7 +247,11 @@ module _ (inner : Inner) where
     labels ← repeated is_label_word (labels_with (room - 1)) opening.scopes opening.rest
     items ← repeated (λ kind. not (is_close_brace kind)) (block_item_with (room - 1)) labels.scopes labels.rest
     closing ← token_at is_close_brace items.scopes items.rest
-    ends (record { opening = opening.tree; items = block_items_from (labels.tree ++ items.tree); closing = closing.tree }) closing.scopes closing.rest
+    ends (record {
+      opening = opening.tree;
+      items = block_items_from (labels.tree ++ items.tree);
+      closing = closing.tree;
+    }) closing.scopes closing.rest
 
   -- Block = { (decl | stmt)* }
   unfoldable pub block_with : ℕ → Reader Block
@@ -284,7 +304,8 @@ module _ (inner : Inner) where
   -- [else stmt]
   unfoldable pub some_else_with : ℕ → Reader SomeElse
   some_else_with room s ts =
-      if is_else (kind_at ts) then (take_one s ts >>= λ keyword. part_with room keyword.scopes keyword.rest >>= λ t. ends (some_else keyword.tree t.tree) t.scopes t.rest)
+      if is_else (kind_at ts) then (take_one s ts >>= λ keyword. part_with room keyword.scopes keyword.rest >>= λ t.
+      ends (some_else keyword.tree t.tree) t.scopes t.rest)
       else ends no_else s ts
 
   -- If = if ( expr ) stmt [else stmt], in its scope
@@ -335,13 +356,15 @@ module _ (inner : Inner) where
   unfoldable pub extended_start : ℕ → Reader ForStart
   extended_start room s ts = do
     exts ← extensions_at room s ts
-    if begins_specs exts.scopes (kind_at exts.rest) then as_start (declaration_with exts.tree room exts.scopes exts.rest)
+    if begins_specs exts.scopes (kind_at exts.rest)
+        then as_start (declaration_with exts.tree room exts.scopes exts.rest)
         else start_value_with (extensions exts.tree) room exts.scopes exts.rest
 
   -- Declaration | [expr] ;  whose height is at most the room
   unfoldable pub for_start_with : ℕ → Reader ForStart
   for_start_with room s ts =
-      if is_semicolon (kind_at ts) then (take_one s ts >>= λ semi. ends (start_value no_expr semi.tree) semi.scopes semi.rest)
+      if is_semicolon (kind_at ts)
+      then (take_one s ts >>= λ semi. ends (start_value no_expr semi.tree) semi.scopes semi.rest)
       else if is_extension (kind_at ts) then extended_start room s ts
       else if begins_specs s (kind_at ts) then as_start (declaration_with [] room s ts)
       else start_value_with nothing room s ts
@@ -378,7 +401,8 @@ module _ (inner : Inner) where
   unfoldable pub goto_with : ℕ → Reader Stmt
   goto_with room s ts = fits 1 room ts (do
     keyword ← take_one s ts
-    if is_wide keyword.scopes && is_star (kind_at keyword.rest) then goto_value_with keyword.tree room keyword.scopes keyword.rest
+    if is_wide keyword.scopes && is_star (kind_at keyword.rest)
+        then goto_value_with keyword.tree room keyword.scopes keyword.rest
         else goto_name keyword.tree keyword.scopes keyword.rest)
 
   -- Continue = continue ; , and Break likewise
@@ -423,8 +447,10 @@ module _ (inner : Inner) where
   -- Break
   -- | Return | Asm, by what it begins with
   unfoldable pub stmt_by : StmtStart → ℕ → Reader Stmt
-  stmt_by starts.Block room s ts = block_with room s ts >>= λ b. ends (block b.tree.opening b.tree.items b.tree.closing) b.scopes b.rest
-  stmt_by starts.Semicolon room s ts = fits 1 room ts (take_one s ts >>= λ semi. ends (expr_stmt no_expr semi.tree) semi.scopes semi.rest)
+  stmt_by starts.Block room s ts =
+      block_with room s ts >>= λ b. ends (block b.tree.opening b.tree.items b.tree.closing) b.scopes b.rest
+  stmt_by starts.Semicolon room s ts =
+      fits 1 room ts (take_one s ts >>= λ semi. ends (expr_stmt no_expr semi.tree) semi.scopes semi.rest)
   stmt_by starts.Attribute room s ts = attr_stmt_with room s ts
   stmt_by (starts.Name name) room s ts = named_stmt name room s ts
   stmt_by starts.Case room s ts = case_with room s ts
@@ -439,7 +465,8 @@ module _ (inner : Inner) where
   stmt_by starts.Break room s ts = jump_with break_stmt room s ts
   stmt_by starts.Return room s ts = return_with room s ts
   stmt_by starts.Asm room s ts = asm_with room s ts
-  stmt_by starts.Value room s ts = if begins_expr s (kind_at ts) then fits 2 room ts (expr_stmt_with nothing room s ts) else refuses Unexpected ts
+  stmt_by starts.Value room s ts =
+      if begins_expr s (kind_at ts) then fits 2 room ts (expr_stmt_with nothing room s ts) else refuses Unexpected ts
 
   -- a statement, by its first token
   unfoldable pub stmt_with : ℕ → Reader Stmt

@@ -17,7 +17,7 @@ use Rattle.c_syntax.specs.declared.parts.PointerWord.{PointerWord}
 use Rattle.c_syntax.specs.declared.parts.PointerWord.TheVariants as pointer_words
 use Rattle.c_syntax.specs.declared.parts.ArrayWord.{ArrayWord}
 use Rattle.c_syntax.specs.declared.parts.ArrayWord.TheVariants as array_words
-use Rattle.c_reading.specs.declared.kinds.Fault.TheVariants.{Unexpected}
+use Rattle.c_reading.specs.declared.kinds.FaultKind.TheVariants.{Unexpected}
 use Rattle.c_reading.specs.declared.kinds.Bracket.{Bracket}
 use Rattle.c_reading.specs.declared.kinds.Bracket.TheVariants.{Paren, Square, Brace}
 use Rattle.c_reading.specs.declared.kinds.Inside.{Inside}
@@ -268,7 +268,8 @@ pub record Opened : Type 0 where
 -- a token inside of brackets: one more opens, the innermost is closed by its own kind, or it stands plain
 abbrev pub bracket_by : Inside → Bracket → List Bracket → Lexeme → Reader Opened
 bracket_by (Opens other) b bs t s ts = ends (record { brackets = other ∷ b ∷ bs; last = t.at }) s ts
-bracket_by (Closes other) b bs t s ts = if is_same other b then ends (record { brackets = bs; last = t.at }) s ts else refuses Unexpected (t ∷ ts)
+bracket_by (Closes other) b bs t s ts =
+    if is_same other b then ends (record { brackets = bs; last = t.at }) s ts else refuses Unexpected (t ∷ ts)
 bracket_by Plain b bs t s ts = ends (record { brackets = b ∷ bs; last = t.at }) s ts
 bracket_by Stops b bs t s ts = refuses Unexpected (t ∷ ts)
 
@@ -314,7 +315,8 @@ attrs_at room s ts = repeated is_attribute (λ s ts. fits 2 room ts (attr_at s t
 -- (qual | Attr)*
 unfoldable pub pointer_word_at : ℕ → Reader PointerWord
 pointer_word_at room s ts =
-    if is_attribute (kind_at ts) then fits 2 room ts (attr_at s ts >>= λ attr. ends (pointer_words.Attr attr.tree) attr.scopes attr.rest)
+    if is_attribute (kind_at ts)
+    then fits 2 room ts (attr_at s ts >>= λ attr. ends (pointer_words.Attr attr.tree) attr.scopes attr.rest)
     else made_at qual_of s ts >>= λ qual. ends (pointer_words.Qual qual.tree) qual.scopes qual.rest
 
 -- whether an attribute or a qualifier stands behind the `*` of a pointer

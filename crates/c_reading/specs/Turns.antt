@@ -18,7 +18,8 @@ use Rattle.c_reading.specs.Knot.{knot}
 
 -- a turn that goes on leaves fewer tokens than it began with
 abbrev pub TakesToken : {S : Type 0} → Turn S → Type 0
-TakesToken {S} turn = (a : S) (s : HeldScopes) (ts : List Lexeme) (x : Found S) → turn a s ts ≡ Some (Ok x) → length x.rest < length ts
+TakesToken {S} turn =
+    (a : S) (s : HeldScopes) (ts : List Lexeme) (x : Found S) → turn a s ts ≡ Some (Ok x) → length x.rest < length ts
 
 -- the items of a body or block go on: any token but `}`
 abbrev pub no_close_brace : TokenKind → Bool

@@ -5,7 +5,7 @@ use qual_base::NameId;
 
 /// Why no well-formed unit goes on with a token.
 #[derive(Clone, Copy)]
-pub enum Fault {
+pub enum FaultKind {
     /// No form of the grammar goes on so.
     Unexpected,
     /// The tree would be too high.

@@ -9,6 +9,7 @@ mod kinds;
 mod laws;
 
 pub use kinds::{
-    Bracket, Fault, Infix, Inside, Mode, Opening, PostfixForm, Reach, Role, SpecStart, StmtStart,
+    Bracket, FaultKind, Infix, Inside, Mode, Opening, PostfixForm, Reach, Role, SpecStart,
+    StmtStart,
 };
 pub use laws::{one_unit_at_most, turns_take_tokens, unit_is_well_formed, well_formed_is_read};

@@ -26,7 +26,8 @@ declr_in t = some_declr_from t.declr.now
 
 -- the expression that is made of the parts of a shape
 abbrev pub shaped : Shape → Expr
-shaped (shapes.Operation left between token right) = operation (expr_of left.now.value) (between_of between) token (expr_of right.now.value)
+shaped (shapes.Operation left between token right) =
+    operation (expr_of left.now.value) (between_of between) token (expr_of right.now.value)
 shaped (shapes.Cast opening t closing e) = cast opening (words_of t) (declr_in t) closing (expr_of e.now.value)
 shaped (shapes.Prefix token p e) = prefix token p (expr_of e.now.value)
 shaped (shapes.Sizeof word e) = sizeof_value word (expr_of e.now.value)
@@ -37,19 +38,29 @@ shaped (shapes.Call e opening es closing) = call (expr_of e.now.value) opening (
 shaped (shapes.Dot e token name) = dot (expr_of e.now.value) token name
 shaped (shapes.Arrow e token name) = arrow (expr_of e.now.value) token name
 shaped (shapes.Post e token p) = post (expr_of e.now.value) token p
-shaped (shapes.Compound opening t closing brace items last brace2) = compound opening (words_of t) (declr_in t) closing (init_list brace (init_items_from items.now.items) last brace2)
+shaped (shapes.Compound opening t closing brace items last brace2) =
+    compound opening (words_of t) (declr_in t) closing (init_list brace (init_items_from items.now.items) last brace2)
 shaped (shapes.NameUse token name) = name_use token name
 shaped (shapes.NumberUse token) = number_use token
 shaped (shapes.CharUse token) = char_use token
 shaped (shapes.TextUse texts) = text_use texts.now.items
 shaped (shapes.Paren opening e closing) = paren opening (expr_of e.now.value) closing
-shaped (shapes.StmtExpr opening brace items brace2 closing) = statement_expr opening brace (block_items_from items.now.items) brace2 closing
-shaped (shapes.VaArg keyword opening e separator t closing) = va_arg keyword opening (expr_of e.now.value) separator (words_of t) (declr_in t) closing
-shaped (shapes.VaStart keyword opening e separator e2 closing) = va_start keyword opening (expr_of e.now.value) separator (expr_of e2.now.value) closing
-shaped (shapes.VaCopy keyword opening e separator e2 closing) = va_copy keyword opening (expr_of e.now.value) separator (expr_of e2.now.value) closing
-shaped (shapes.Offset keyword opening t separator name steps closing) = offset keyword opening (words_of t) (declr_in t) separator name (desigs_from steps.now.items) closing
+shaped (shapes.StmtExpr opening brace items brace2 closing) =
+    statement_expr opening brace (block_items_from items.now.items) brace2 closing
+shaped (shapes.VaArg keyword opening e separator t closing) =
+    va_arg keyword opening (expr_of e.now.value) separator (words_of t) (declr_in t) closing
+shaped (shapes.VaStart keyword opening e separator e2 closing) =
+    va_start keyword opening (expr_of e.now.value) separator (expr_of e2.now.value) closing
+shaped (shapes.VaCopy keyword opening e separator e2 closing) =
+    va_copy keyword opening (expr_of e.now.value) separator (expr_of e2.now.value) closing
+shaped (shapes.Offset keyword opening t separator name steps closing) =
+    offset keyword opening (words_of t) (declr_in t) separator name (desigs_from steps.now.items) closing
 shaped (shapes.Part keyword e) = complex_part keyword (expr_of e.now.value)
 shaped (shapes.LabelUse token name) = label_use token name
-shaped (shapes.Compat keyword opening t separator t2 closing) = compat keyword opening (words_of t) (declr_in t) separator (words_of t2) (declr_in t2) closing
-shaped (shapes.Choose keyword opening e separator e2 separator2 e3 closing) = choose keyword opening (expr_of e.now.value) separator (expr_of e2.now.value) separator2 (expr_of e3.now.value) closing
-shaped (shapes.Generic keyword opening e xs closing) = generic keyword opening (expr_of e.now.value) (assocs_from xs.now.items) closing
+shaped (shapes.Compat keyword opening t separator t2 closing) =
+    compat keyword opening (words_of t) (declr_in t) separator (words_of t2) (declr_in t2) closing
+shaped (shapes.Choose keyword opening e separator e2 separator2 e3 closing) =
+    choose keyword opening (expr_of e.now.value) separator (expr_of e2.now.value) separator2
+    (expr_of e3.now.value) closing
+shaped (shapes.Generic keyword opening e xs closing) =
+    generic keyword opening (expr_of e.now.value) (assocs_from xs.now.items) closing

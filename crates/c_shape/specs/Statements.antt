@@ -21,15 +21,22 @@ statement_shaped (shapes.AttrStmt attrs semi) = attr_stmt attrs.now.items semi
 statement_shaped (shapes.Label name colon attrs s) = label name colon attrs.now.items (stmt_of s.now.value)
 statement_shaped (shapes.Case keyword e colon s) = case_stmt keyword (expr_of e.now.value) colon (stmt_of s.now.value)
 statement_shaped (shapes.Default keyword colon s) = default_stmt keyword colon (stmt_of s.now.value)
-statement_shaped (shapes.If keyword opening e closing s other) = if_stmt keyword opening (expr_of e.now.value) closing (stmt_of s.now.value) (some_else_from other.now)
-statement_shaped (shapes.Switch keyword opening e closing s) = switch_stmt keyword opening (expr_of e.now.value) closing (stmt_of s.now.value)
-statement_shaped (shapes.While keyword opening e closing s) = while_stmt keyword opening (expr_of e.now.value) closing (stmt_of s.now.value)
-statement_shaped (shapes.Do keyword s keyword2 opening e closing semi) = do_stmt keyword (stmt_of s.now.value) keyword2 opening (expr_of e.now.value) closing semi
-statement_shaped (shapes.For keyword opening start e semi e2 closing s) = for_stmt keyword opening (start_shaped start) (some_expr_from e.now) semi (some_expr_from e2.now) closing (stmt_of s.now.value)
+statement_shaped (shapes.If keyword opening e closing s other) =
+    if_stmt keyword opening (expr_of e.now.value) closing (stmt_of s.now.value) (some_else_from other.now)
+statement_shaped (shapes.Switch keyword opening e closing s) =
+    switch_stmt keyword opening (expr_of e.now.value) closing (stmt_of s.now.value)
+statement_shaped (shapes.While keyword opening e closing s) =
+    while_stmt keyword opening (expr_of e.now.value) closing (stmt_of s.now.value)
+statement_shaped (shapes.Do keyword s keyword2 opening e closing semi) =
+    do_stmt keyword (stmt_of s.now.value) keyword2 opening (expr_of e.now.value) closing semi
+statement_shaped (shapes.For keyword opening start e semi e2 closing s) =
+    for_stmt keyword opening (start_shaped start) (some_expr_from e.now) semi (some_expr_from e2.now) closing
+    (stmt_of s.now.value)
 statement_shaped (shapes.Goto keyword name semi) = goto_stmt keyword name semi
 statement_shaped (shapes.Continue keyword semi) = continue_stmt keyword semi
 statement_shaped (shapes.Break keyword semi) = break_stmt keyword semi
 statement_shaped (shapes.Return keyword e semi) = return_stmt keyword (some_expr_from e.now) semi
 statement_shaped (shapes.Asm keyword words group semi) = asm_stmt keyword words.now.items group semi
-statement_shaped (shapes.CaseRange keyword e dots e2 colon s) = case_range keyword (expr_of e.now.value) dots (expr_of e2.now.value) colon (stmt_of s.now.value)
+statement_shaped (shapes.CaseRange keyword e dots e2 colon s) =
+    case_range keyword (expr_of e.now.value) dots (expr_of e2.now.value) colon (stmt_of s.now.value)
 statement_shaped (shapes.GotoValue keyword star e semi) = goto_value keyword star (expr_of e.now.value) semi

@@ -20,9 +20,12 @@ free_begins front w free first = by_mix (mix_of front) refl (mix_right front)
     by_mix : (o : Option Mix) → mix_of front ≡ o → Stands front o → Begins (pushed front w)
     by_mix None is none = absurd (none first)
     by_mix (Some mix) is read =
-        let next : mix_of (pushed front w) ≡ Some mix = mix_pushed front w ∙ ap (λ o. then_class o (class_of w)) is ∙ ap (then_class (Some mix)) free in
-        begun mix (pushed front w) (subst (λ (o : Option Mix). Stands (pushed front w) o) next (mix_right (pushed front w)))
+        let next : mix_of (pushed front w) ≡ Some mix =
+        mix_pushed front w ∙ ap (λ o. then_class o (class_of w)) is ∙ ap (then_class (Some mix)) free in
+        begun mix (pushed front w)
+        (subst (λ (o : Option Mix). Stands (pushed front w) o) next (mix_right (pushed front w)))
 
+-- the tokens of a word that may not stand in any mix begin with the token that a fault names
 word_begins : (all : List Lexeme) (w : SpecWord) (k : List Lexeme) → (class_of w ≡ Free → ⊥)
     → number_of_first (spec_word_text all w k) ≡ Some (word_token w)
 word_begins all (storage a) k other = refl
@@ -41,4 +44,6 @@ word_begins all (align a) k other = absurd (other refl)
 word_begins all (auto_word a) k other = refl
 
 pub bad_tokens_begin : BadTokensBegin
-bad_tokens_begin all ws token k bad = word_begins all bad.word k (λ free. bad.bad (free_begins bad.front bad.word free bad.begun)) ∙ ap Some (sym bad.place)
+bad_tokens_begin all ws token k bad =
+    word_begins all bad.word k (λ free. bad.bad (free_begins bad.front bad.word free bad.begun))
+    ∙ ap Some (sym bad.place)

@@ -24,6 +24,7 @@ record Marks (P : Mark → Type 0) : Type 0 where
   complex_signed : P marks.ComplexSigned
   complex_unsigned : P marks.ComplexUnsigned
 
+-- a fact that is listed for all marks holds of each
 mark_at : (P : Mark → Type 0) → Marks P → (m : Mark) → P m
 mark_at P all marks.Unmarked = all.unmarked
 mark_at P all marks.Signed = all.signed
@@ -37,23 +38,152 @@ mark_at P all marks.ComplexUnsigned = all.complex_unsigned
 abbrev Fits : Base → Mark → Type 0
 Fits b m = begins type_code basic_types (words_of b m) ≡ fits b m
 
+-- for each mark the words with a base are in some set of the table just where they fit it
 all_fit : (b : Base) → Marks (Fits b)
-all_fit bases.Nothing = record { unmarked = refl; signed = refl; unsigned = refl; complex = refl; any = refl; complex_signed = refl; complex_unsigned = refl }
-all_fit bases.Void = record { unmarked = refl; signed = refl; unsigned = refl; complex = refl; any = refl; complex_signed = refl; complex_unsigned = refl }
-all_fit bases.Bool = record { unmarked = refl; signed = refl; unsigned = refl; complex = refl; any = refl; complex_signed = refl; complex_unsigned = refl }
-all_fit bases.Alone = record { unmarked = refl; signed = refl; unsigned = refl; complex = refl; any = refl; complex_signed = refl; complex_unsigned = refl }
-all_fit bases.Char = record { unmarked = refl; signed = refl; unsigned = refl; complex = refl; any = refl; complex_signed = refl; complex_unsigned = refl }
-all_fit bases.Int = record { unmarked = refl; signed = refl; unsigned = refl; complex = refl; any = refl; complex_signed = refl; complex_unsigned = refl }
-all_fit bases.Int128 = record { unmarked = refl; signed = refl; unsigned = refl; complex = refl; any = refl; complex_signed = refl; complex_unsigned = refl }
-all_fit bases.Short = record { unmarked = refl; signed = refl; unsigned = refl; complex = refl; any = refl; complex_signed = refl; complex_unsigned = refl }
-all_fit bases.ShortInt = record { unmarked = refl; signed = refl; unsigned = refl; complex = refl; any = refl; complex_signed = refl; complex_unsigned = refl }
-all_fit bases.Long = record { unmarked = refl; signed = refl; unsigned = refl; complex = refl; any = refl; complex_signed = refl; complex_unsigned = refl }
-all_fit bases.LongInt = record { unmarked = refl; signed = refl; unsigned = refl; complex = refl; any = refl; complex_signed = refl; complex_unsigned = refl }
-all_fit bases.LongLong = record { unmarked = refl; signed = refl; unsigned = refl; complex = refl; any = refl; complex_signed = refl; complex_unsigned = refl }
-all_fit bases.LongLongInt = record { unmarked = refl; signed = refl; unsigned = refl; complex = refl; any = refl; complex_signed = refl; complex_unsigned = refl }
-all_fit bases.Float = record { unmarked = refl; signed = refl; unsigned = refl; complex = refl; any = refl; complex_signed = refl; complex_unsigned = refl }
-all_fit bases.Double = record { unmarked = refl; signed = refl; unsigned = refl; complex = refl; any = refl; complex_signed = refl; complex_unsigned = refl }
-all_fit bases.LongDouble = record { unmarked = refl; signed = refl; unsigned = refl; complex = refl; any = refl; complex_signed = refl; complex_unsigned = refl }
+all_fit bases.Nothing = record {
+  unmarked = refl;
+  signed = refl;
+  unsigned = refl;
+  complex = refl;
+  any = refl;
+  complex_signed = refl;
+  complex_unsigned = refl;
+}
+all_fit bases.Void = record {
+  unmarked = refl;
+  signed = refl;
+  unsigned = refl;
+  complex = refl;
+  any = refl;
+  complex_signed = refl;
+  complex_unsigned = refl;
+}
+all_fit bases.Bool = record {
+  unmarked = refl;
+  signed = refl;
+  unsigned = refl;
+  complex = refl;
+  any = refl;
+  complex_signed = refl;
+  complex_unsigned = refl;
+}
+all_fit bases.Alone = record {
+  unmarked = refl;
+  signed = refl;
+  unsigned = refl;
+  complex = refl;
+  any = refl;
+  complex_signed = refl;
+  complex_unsigned = refl;
+}
+all_fit bases.Char = record {
+  unmarked = refl;
+  signed = refl;
+  unsigned = refl;
+  complex = refl;
+  any = refl;
+  complex_signed = refl;
+  complex_unsigned = refl;
+}
+all_fit bases.Int = record {
+  unmarked = refl;
+  signed = refl;
+  unsigned = refl;
+  complex = refl;
+  any = refl;
+  complex_signed = refl;
+  complex_unsigned = refl;
+}
+all_fit bases.Int128 = record {
+  unmarked = refl;
+  signed = refl;
+  unsigned = refl;
+  complex = refl;
+  any = refl;
+  complex_signed = refl;
+  complex_unsigned = refl;
+}
+all_fit bases.Short = record {
+  unmarked = refl;
+  signed = refl;
+  unsigned = refl;
+  complex = refl;
+  any = refl;
+  complex_signed = refl;
+  complex_unsigned = refl;
+}
+all_fit bases.ShortInt = record {
+  unmarked = refl;
+  signed = refl;
+  unsigned = refl;
+  complex = refl;
+  any = refl;
+  complex_signed = refl;
+  complex_unsigned = refl;
+}
+all_fit bases.Long = record {
+  unmarked = refl;
+  signed = refl;
+  unsigned = refl;
+  complex = refl;
+  any = refl;
+  complex_signed = refl;
+  complex_unsigned = refl;
+}
+all_fit bases.LongInt = record {
+  unmarked = refl;
+  signed = refl;
+  unsigned = refl;
+  complex = refl;
+  any = refl;
+  complex_signed = refl;
+  complex_unsigned = refl;
+}
+all_fit bases.LongLong = record {
+  unmarked = refl;
+  signed = refl;
+  unsigned = refl;
+  complex = refl;
+  any = refl;
+  complex_signed = refl;
+  complex_unsigned = refl;
+}
+all_fit bases.LongLongInt = record {
+  unmarked = refl;
+  signed = refl;
+  unsigned = refl;
+  complex = refl;
+  any = refl;
+  complex_signed = refl;
+  complex_unsigned = refl;
+}
+all_fit bases.Float = record {
+  unmarked = refl;
+  signed = refl;
+  unsigned = refl;
+  complex = refl;
+  any = refl;
+  complex_signed = refl;
+  complex_unsigned = refl;
+}
+all_fit bases.Double = record {
+  unmarked = refl;
+  signed = refl;
+  unsigned = refl;
+  complex = refl;
+  any = refl;
+  complex_signed = refl;
+  complex_unsigned = refl;
+}
+all_fit bases.LongDouble = record {
+  unmarked = refl;
+  signed = refl;
+  unsigned = refl;
+  complex = refl;
+  any = refl;
+  complex_signed = refl;
+  complex_unsigned = refl;
+}
 
 pub fits_tells : (b : Base) (m : Mark) → begins type_code basic_types (words_of b m) ≡ fits b m
 fits_tells b m = mark_at (Fits b) (all_fit b) m
@@ -115,6 +245,7 @@ place b marks.AnyComplex = any_place b
 place b marks.ComplexSigned = any_signed_place b
 place b marks.ComplexUnsigned = any_signed_place b + 1
 
+-- words that fit stand in the table at their place where they are whole, and are no set of it where they are not
 abbrev pub Told : Bool → Bool → Base → Mark → Type 0
 Told false whole b m = Unit {0}
 Told true true b m = slice_get basic_types (place b m) ≡ Some (words_of b m)
@@ -123,23 +254,152 @@ Told true false b m = ends type_code basic_types (words_of b m) ≡ false
 abbrev Whole : Base → Mark → Type 0
 Whole b m = Told (fits b m) (is_whole b m) b m
 
+-- for each mark the words with a base stand in the table as a whole set just where they are whole
 all_whole : (b : Base) → Marks (Whole b)
-all_whole bases.Nothing = record { unmarked = refl; signed = refl; unsigned = refl; complex = refl; any = refl; complex_signed = refl; complex_unsigned = refl }
-all_whole bases.Void = record { unmarked = refl; signed = tt; unsigned = tt; complex = tt; any = tt; complex_signed = tt; complex_unsigned = tt }
-all_whole bases.Bool = record { unmarked = refl; signed = tt; unsigned = tt; complex = tt; any = tt; complex_signed = tt; complex_unsigned = tt }
-all_whole bases.Alone = record { unmarked = refl; signed = tt; unsigned = tt; complex = tt; any = refl; complex_signed = tt; complex_unsigned = tt }
-all_whole bases.Char = record { unmarked = refl; signed = refl; unsigned = refl; complex = tt; any = refl; complex_signed = refl; complex_unsigned = refl }
-all_whole bases.Int = record { unmarked = refl; signed = refl; unsigned = refl; complex = tt; any = refl; complex_signed = refl; complex_unsigned = refl }
-all_whole bases.Int128 = record { unmarked = refl; signed = refl; unsigned = refl; complex = tt; any = tt; complex_signed = tt; complex_unsigned = tt }
-all_whole bases.Short = record { unmarked = refl; signed = refl; unsigned = refl; complex = tt; any = refl; complex_signed = refl; complex_unsigned = refl }
-all_whole bases.ShortInt = record { unmarked = refl; signed = refl; unsigned = refl; complex = tt; any = refl; complex_signed = refl; complex_unsigned = refl }
-all_whole bases.Long = record { unmarked = refl; signed = refl; unsigned = refl; complex = refl; any = refl; complex_signed = refl; complex_unsigned = refl }
-all_whole bases.LongInt = record { unmarked = refl; signed = refl; unsigned = refl; complex = tt; any = refl; complex_signed = refl; complex_unsigned = refl }
-all_whole bases.LongLong = record { unmarked = refl; signed = refl; unsigned = refl; complex = tt; any = refl; complex_signed = refl; complex_unsigned = refl }
-all_whole bases.LongLongInt = record { unmarked = refl; signed = refl; unsigned = refl; complex = tt; any = refl; complex_signed = refl; complex_unsigned = refl }
-all_whole bases.Float = record { unmarked = refl; signed = tt; unsigned = tt; complex = refl; any = refl; complex_signed = tt; complex_unsigned = tt }
-all_whole bases.Double = record { unmarked = refl; signed = tt; unsigned = tt; complex = refl; any = refl; complex_signed = tt; complex_unsigned = tt }
-all_whole bases.LongDouble = record { unmarked = refl; signed = tt; unsigned = tt; complex = refl; any = refl; complex_signed = tt; complex_unsigned = tt }
+all_whole bases.Nothing = record {
+  unmarked = refl;
+  signed = refl;
+  unsigned = refl;
+  complex = refl;
+  any = refl;
+  complex_signed = refl;
+  complex_unsigned = refl;
+}
+all_whole bases.Void = record {
+  unmarked = refl;
+  signed = tt;
+  unsigned = tt;
+  complex = tt;
+  any = tt;
+  complex_signed = tt;
+  complex_unsigned = tt;
+}
+all_whole bases.Bool = record {
+  unmarked = refl;
+  signed = tt;
+  unsigned = tt;
+  complex = tt;
+  any = tt;
+  complex_signed = tt;
+  complex_unsigned = tt;
+}
+all_whole bases.Alone = record {
+  unmarked = refl;
+  signed = tt;
+  unsigned = tt;
+  complex = tt;
+  any = refl;
+  complex_signed = tt;
+  complex_unsigned = tt;
+}
+all_whole bases.Char = record {
+  unmarked = refl;
+  signed = refl;
+  unsigned = refl;
+  complex = tt;
+  any = refl;
+  complex_signed = refl;
+  complex_unsigned = refl;
+}
+all_whole bases.Int = record {
+  unmarked = refl;
+  signed = refl;
+  unsigned = refl;
+  complex = tt;
+  any = refl;
+  complex_signed = refl;
+  complex_unsigned = refl;
+}
+all_whole bases.Int128 = record {
+  unmarked = refl;
+  signed = refl;
+  unsigned = refl;
+  complex = tt;
+  any = tt;
+  complex_signed = tt;
+  complex_unsigned = tt;
+}
+all_whole bases.Short = record {
+  unmarked = refl;
+  signed = refl;
+  unsigned = refl;
+  complex = tt;
+  any = refl;
+  complex_signed = refl;
+  complex_unsigned = refl;
+}
+all_whole bases.ShortInt = record {
+  unmarked = refl;
+  signed = refl;
+  unsigned = refl;
+  complex = tt;
+  any = refl;
+  complex_signed = refl;
+  complex_unsigned = refl;
+}
+all_whole bases.Long = record {
+  unmarked = refl;
+  signed = refl;
+  unsigned = refl;
+  complex = refl;
+  any = refl;
+  complex_signed = refl;
+  complex_unsigned = refl;
+}
+all_whole bases.LongInt = record {
+  unmarked = refl;
+  signed = refl;
+  unsigned = refl;
+  complex = tt;
+  any = refl;
+  complex_signed = refl;
+  complex_unsigned = refl;
+}
+all_whole bases.LongLong = record {
+  unmarked = refl;
+  signed = refl;
+  unsigned = refl;
+  complex = tt;
+  any = refl;
+  complex_signed = refl;
+  complex_unsigned = refl;
+}
+all_whole bases.LongLongInt = record {
+  unmarked = refl;
+  signed = refl;
+  unsigned = refl;
+  complex = tt;
+  any = refl;
+  complex_signed = refl;
+  complex_unsigned = refl;
+}
+all_whole bases.Float = record {
+  unmarked = refl;
+  signed = tt;
+  unsigned = tt;
+  complex = refl;
+  any = refl;
+  complex_signed = tt;
+  complex_unsigned = tt;
+}
+all_whole bases.Double = record {
+  unmarked = refl;
+  signed = tt;
+  unsigned = tt;
+  complex = refl;
+  any = refl;
+  complex_signed = tt;
+  complex_unsigned = tt;
+}
+all_whole bases.LongDouble = record {
+  unmarked = refl;
+  signed = tt;
+  unsigned = tt;
+  complex = refl;
+  any = refl;
+  complex_signed = tt;
+  complex_unsigned = tt;
+}
 
 pub whole_tells : (b : Base) (m : Mark) → Told (fits b m) (is_whole b m) b m
 whole_tells b m = mark_at (Whole b) (all_whole b) m
@@ -155,14 +415,16 @@ marked_is marks.Unmarked marks.Signed one = IsPermutation-refl (mark_words marks
 marked_is marks.Signed marks.Signed one = refl
 marked_is marks.Unsigned marks.Signed one = refl
 marked_is marks.Complex marks.Signed one = refl
-marked_is marks.AnyComplex marks.Signed one = IsPermutation-sym _ _ (IsPermutation-middle (words.AnyComplex ∷ []) words.Signed [])
+marked_is marks.AnyComplex marks.Signed one =
+    IsPermutation-sym _ _ (IsPermutation-middle (words.AnyComplex ∷ []) words.Signed [])
 marked_is marks.ComplexSigned marks.Signed one = refl
 marked_is marks.ComplexUnsigned marks.Signed one = refl
 marked_is marks.Unmarked marks.Unsigned one = IsPermutation-refl (mark_words marks.Unsigned)
 marked_is marks.Signed marks.Unsigned one = refl
 marked_is marks.Unsigned marks.Unsigned one = refl
 marked_is marks.Complex marks.Unsigned one = refl
-marked_is marks.AnyComplex marks.Unsigned one = IsPermutation-sym _ _ (IsPermutation-middle (words.AnyComplex ∷ []) words.Unsigned [])
+marked_is marks.AnyComplex marks.Unsigned one =
+    IsPermutation-sym _ _ (IsPermutation-middle (words.AnyComplex ∷ []) words.Unsigned [])
 marked_is marks.ComplexSigned marks.Unsigned one = refl
 marked_is marks.ComplexUnsigned marks.Unsigned one = refl
 marked_is marks.Unmarked marks.Complex one = IsPermutation-refl (mark_words marks.Complex)
@@ -197,6 +459,7 @@ abbrev pub Joined : Base → Core → Option Base → Type 0
 Joined b c None = begins type_code basic_types (base_words b ++ core_word c ∷ []) ≡ false
 Joined b c (Some after) = insert (base_words b) (room b c) (core_word c) ≡ base_words after
 
+-- a core word joins a base to the words of the next base, or no set has it with them
 pub joined : (b : Base) (c : Core) → Joined b c (join b c)
 joined bases.Nothing cores.Void = refl
 joined bases.Nothing cores.Bool = refl

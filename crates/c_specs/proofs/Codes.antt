@@ -10,6 +10,7 @@ use Rattle.c_specs.specs.declared.storage.Storage.TheVariants.{Nothing, Typedef,
 use Rattle.c_specs.specs.Basic.{part_of}
 use Rattle.c_specs.specs.Storage.{storing}
 
+-- a number for each part of a basic type, 0 for marks that are two words and for other words
 abbrev pub part_code : Part → ℕ
 part_code (parts.Mark marks.Unmarked) = 0
 part_code (parts.Mark marks.Signed) = 1
@@ -33,6 +34,7 @@ part_code parts.Other = 0
 abbrev pub type_code : Keyword → ℕ
 type_code k = part_code (part_of k)
 
+-- a number for each storage word, 0 where it is none or two
 abbrev pub storing_code : Storage → ℕ
 storing_code Nothing = 0
 storing_code Typedef = 1

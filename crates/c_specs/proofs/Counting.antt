@@ -31,16 +31,20 @@ module _ (code : Keyword → ℕ) where
   pub not_begun : (sets : List (List Keyword)) (ws all : List Keyword) → begins sets ws ≡ false
       → ((n : ℕ) → count n ws ≤ count n all) → Any (IsPermutation all) sets → ⊥
   not_begun sets ws all none fewer (at, set, lt, is, same) =
-      let f : (n : ℕ) → count n ws ≤ count n set = λ n. let e = sum_by-IsPermutation (λ k. if nat_eq (code k) n then 1 else 0) all set same in let l = fewer n in omega arith in
+      let f : (n : ℕ) → count n ws ≤ count n set = λ n. let e =
+      sum_by-IsPermutation (λ k. if nat_eq (code k) n then 1 else 0) all set same in let l = fewer n in omega arith in
       let yes = list_any-from_Any (λ s. covers s ws) sets (at, set, lt, is, covered set ws ws f) in
       let wrong : true ≡ false = sym yes ∙ none in absurd cc
 
   pub not_ended : (sets : List (List Keyword)) (ws all : List Keyword) → ends sets ws ≡ false → IsPermutation all ws
       → Any (IsPermutation all) sets → ⊥
   not_ended sets ws all none here (at, set, lt, is, same) =
-      let f : (n : ℕ) → count n ws ≤ count n set = λ n. let e = sum_by-IsPermutation (λ k. if nat_eq (code k) n then 1 else 0) all set same in let g = sum_by-IsPermutation (λ k. if nat_eq (code k) n then 1 else 0) all ws here in omega arith in
+      let f : (n : ℕ) → count n ws ≤ count n set =
+      λ n. let e = sum_by-IsPermutation (λ k. if nat_eq (code k) n then 1 else 0) all set same in
+      let g = sum_by-IsPermutation (λ k. if nat_eq (code k) n then 1 else 0) all ws here in omega arith in
       let long : length ws ≡ length set = length_permutation all ws here ∙ sym (length_permutation all set same) in
-      let both : (covers set ws && nat_eq (length ws) (length set)) ≡ true = rw (covered set ws ws f) (eq-eqb _ _ long) in
+      let both : (covers set ws && nat_eq (length ws) (length set)) ≡ true =
+      rw (covered set ws ws f) (eq-eqb _ _ long) in
       let yes = list_any-from_Any (λ s. covers s ws && nat_eq (length ws) (length s)) sets (at, set, lt, is, both) in
       let wrong : true ≡ false = sym yes ∙ none in absurd cc
 

@@ -29,15 +29,18 @@ alike words.Register = refl
 alike words.Thread = refl
 alike _ = refl
 
+-- no storage begins with words and one more that go in no set of storage words
 none_right : (s w : Storage) (k : Keyword) (ks : List Keyword) → storage_code k ≡ storage_code (word_of w)
     → begins storage_code storages (stored_words s ++ word_of w ∷ []) ≡ false → IsPermutation ks (stored_words s)
     → NoStorage (ks ++ k ∷ [])
-none_right s w k ks al none here more any = not_begun storage_code storages (stored_words s ++ word_of w ∷ []) ((ks ++ k ∷ []) ++ more) none (λ n.
+none_right s w k ks al none here more any =
+    not_begun storage_code storages (stored_words s ++ word_of w ∷ []) ((ks ++ k ∷ []) ++ more) none (λ n.
     let all = more_words_count storage_code n (ks ++ k ∷ []) more in
     let whole = more_words_count storage_code n ks (k ∷ []) in
     let part = more_words_count storage_code n (stored_words s) (word_of w ∷ []) in
     let same = sum_by-IsPermutation (λ x. if nat_eq (storage_code x) n then 1 else 0) ks (stored_words s) here in
-    let last : count storage_code n (k ∷ []) ≡ count storage_code n (word_of w ∷ []) = ap (λ (c : ℕ). 0 + (if nat_eq c n then 1 else 0)) al in
+    let last : count storage_code n (k ∷ []) ≡ count storage_code n (word_of w ∷ []) =
+    ap (λ (c : ℕ). 0 + (if nat_eq c n then 1 else 0)) al in
     omega arith) any
 
 -- one more storage word
@@ -49,8 +52,10 @@ stored_right s w k ks al same here = by_stored (stored s w) refl (stored_tells s
     by_stored : (o : Option Storage) → stored s w ≡ o → Stored s w o → Stores (ks ++ k ∷ []) o
     by_stored None e none = none_right s w k ks al none here
     by_stored (Some after) e is = subst (λ x. IsPermutation (ks ++ x ∷ []) (stored_words after)) (same after e)
-        (IsPermutation-push_more ks (stored_words s) (stored_words after) (word_of w) here (subst (λ l. IsPermutation (word_of w ∷ stored_words s) l) is (IsPermutation-insert (stored_words s) (room s w) (word_of w))))
+        (IsPermutation-push_more ks (stored_words s) (stored_words after) (word_of w) here (subst (λ l. IsPermutation
+        (word_of w ∷ stored_words s) l) is (IsPermutation-insert (stored_words s) (room s w) (word_of w))))
 
+-- a word that is none of storage goes with no storage words
 nothing_stored : (s : Storage) → stored s Nothing ≡ None
 nothing_stored Nothing = refl
 nothing_stored Typedef = refl
@@ -62,6 +67,7 @@ nothing_stored Thread = refl
 nothing_stored ThreadStatic = refl
 nothing_stored ThreadExtern = refl
 
+-- a keyword that storage goes on with is its own storage word
 pub word_same : (s : Storage) (k : Keyword) (after : Storage) → stored s (storing k) ≡ Some after
     → word_of (storing k) ≡ k
 word_same s words.Typedef after e = refl

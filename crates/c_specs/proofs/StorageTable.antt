@@ -21,6 +21,7 @@ place Thread = 6
 place ThreadStatic = 7
 place ThreadExtern = 8
 
+-- the words of each storage stand in the table at its place
 pub placed : (s : Storage) → slice_get storages (place s) ≡ Some (stored_words s)
 placed Nothing = refl
 placed Typedef = refl
@@ -51,6 +52,7 @@ abbrev pub Stored : Storage → Storage → Option Storage → Type 0
 Stored s w None = begins storage_code storages (stored_words s ++ word_of w ∷ []) ≡ false
 Stored s w (Some after) = insert (stored_words s) (room s w) (word_of w) ≡ stored_words after
 
+-- a storage word joins others to the words of the next storage, or no set has it with them
 pub stored_tells : (s w : Storage) → Stored s w (stored s w)
 stored_tells Nothing Nothing = refl
 stored_tells Nothing Typedef = refl

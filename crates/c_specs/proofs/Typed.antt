@@ -23,6 +23,7 @@ abbrev Tells : Bool → ℕ → Type 0
 Tells true n = 1 ≤ n
 Tells false n = n ≡ 0
 
+-- two tests of whether a number is 1 at least are the same
 same_told : (a b : Bool) (n : ℕ) → Tells a n → Tells b n → a ≡ b
 same_told true true n x y = refl
 same_told false false n x y = refl
@@ -33,15 +34,30 @@ one_told : (n : ℕ) (ks : List Keyword) (b : Base) (m : Mark) → 1 ≤ length 
     → IsPermutation ks (words_of b m) → 1 ≤ n + length ks
 one_told n ks b m some here = let e = many b m ks some here in omega arith
 
+-- a type stands among words just where their types and type words are at least one
 stands_told : (t : Types) (n : ℕ) (ks : List Keyword) → TypesAre t n ks → Tells (type_stands t) (n + length ks)
 stands_told Named n ks (one, none) = omega arith
-stands_told (Words bases.Nothing marks.Unmarked) n ks (is, fit, here) = let e = length_permutation ks (words_of bases.Nothing marks.Unmarked) here in omega arith
-stands_told (Words bases.Nothing marks.Signed) n ks (is, fit, here) = let e = length_permutation ks (words_of bases.Nothing marks.Signed) here in omega arith
-stands_told (Words bases.Nothing marks.Unsigned) n ks (is, fit, here) = let e = length_permutation ks (words_of bases.Nothing marks.Unsigned) here in omega arith
-stands_told (Words bases.Nothing marks.Complex) n ks (is, fit, here) = let e = length_permutation ks (words_of bases.Nothing marks.Complex) here in omega arith
-stands_told (Words bases.Nothing marks.AnyComplex) n ks (is, fit, here) = let e = length_permutation ks (words_of bases.Nothing marks.AnyComplex) here in omega arith
-stands_told (Words bases.Nothing marks.ComplexSigned) n ks (is, fit, here) = let e = length_permutation ks (words_of bases.Nothing marks.ComplexSigned) here in omega arith
-stands_told (Words bases.Nothing marks.ComplexUnsigned) n ks (is, fit, here) = let e = length_permutation ks (words_of bases.Nothing marks.ComplexUnsigned) here in omega arith
+stands_told (Words bases.Nothing marks.Unmarked) n ks (is, fit, here) =
+    let e = length_permutation ks (words_of bases.Nothing marks.Unmarked) here in
+    omega arith
+stands_told (Words bases.Nothing marks.Signed) n ks (is, fit, here) =
+    let e = length_permutation ks (words_of bases.Nothing marks.Signed) here in
+    omega arith
+stands_told (Words bases.Nothing marks.Unsigned) n ks (is, fit, here) =
+    let e = length_permutation ks (words_of bases.Nothing marks.Unsigned) here in
+    omega arith
+stands_told (Words bases.Nothing marks.Complex) n ks (is, fit, here) =
+    let e = length_permutation ks (words_of bases.Nothing marks.Complex) here in
+    omega arith
+stands_told (Words bases.Nothing marks.AnyComplex) n ks (is, fit, here) =
+    let e = length_permutation ks (words_of bases.Nothing marks.AnyComplex) here in
+    omega arith
+stands_told (Words bases.Nothing marks.ComplexSigned) n ks (is, fit, here) =
+    let e = length_permutation ks (words_of bases.Nothing marks.ComplexSigned) here in
+    omega arith
+stands_told (Words bases.Nothing marks.ComplexUnsigned) n ks (is, fit, here) =
+    let e = length_permutation ks (words_of bases.Nothing marks.ComplexUnsigned) here in
+    omega arith
 stands_told (Words bases.Void m) n ks (is, fit, here) = one_told n ks bases.Void m (omega arith) here
 stands_told (Words bases.Bool m) n ks (is, fit, here) = one_told n ks bases.Bool m (omega arith) here
 stands_told (Words bases.Alone m) n ks (is, fit, here) = one_told n ks bases.Alone m (omega arith) here
@@ -58,6 +74,7 @@ stands_told (Words bases.Float m) n ks (is, fit, here) = one_told n ks bases.Flo
 stands_told (Words bases.Double m) n ks (is, fit, here) = one_told n ks bases.Double m (omega arith) here
 stands_told (Words bases.LongDouble m) n ks (is, fit, here) = one_told n ks bases.LongDouble m (omega arith) here
 
+-- specifiers have a type just where their types and type words are at least one
 words_told : (ws : SpecWords) → Tells (is_typed ws) (type_count ws + length (type_words ws))
 words_told no_words = refl
 words_told (more_words (storage a) ws) = words_told ws
@@ -77,4 +94,6 @@ words_told (more_words (auto_word a) ws) = omega arith
 
 -- a type stands after words where one stands among them
 pub typed_right : (ws : SpecWords) (mix : Mix) → mix_of ws ≡ Some mix → type_stands mix.types ≡ is_typed ws
-typed_right ws mix is = same_told (type_stands mix.types) (is_typed ws) (type_count ws + length (type_words ws)) (stands_told mix.types (type_count ws) (type_words ws) (read_of_mix ws mix is).types) (words_told ws)
+typed_right ws mix is =
+    same_told (type_stands mix.types) (is_typed ws) (type_count ws + length (type_words ws))
+    (stands_told mix.types (type_count ws) (type_words ws) (read_of_mix ws mix is).types) (words_told ws)

@@ -50,12 +50,15 @@ begins_less front middle (more, mix) = (append_words middle more, subst IsMix (a
 then_right : (o : Option Mix) (front : SpecWords) (w : SpecWord) → Stands front o
     → Stands (pushed front w) (then_class o (class_of w))
 then_right None front w none = λ begun. none (begins_less front (more_words w no_words) begun)
-then_right (Some mix) front w read = subst (λ (o : Option Mix). Stands (pushed front w) o) (sym (class_step mix w)) (with_right mix front w read)
+then_right (Some mix) front w read =
+    subst (λ (o : Option Mix). Stands (pushed front w) o) (sym (class_step mix w)) (with_right mix front w read)
 
+-- where words stand as a mix so far, or begin none, so do they with others read behind them
 from_right : (o : Option Mix) (front ws : SpecWords) → Stands front o → Stands (append_words front ws) (mix_from o ws)
 from_right o front no_words read = subst (λ (us : SpecWords). Stands us o) (sym (append_none front)) read
 from_right o front (more_words w ws) read =
-    subst (λ (us : SpecWords). Stands us (mix_from (then_class o (class_of w)) ws)) (append_next front w ws) (from_right (then_class o (class_of w)) (pushed front w) ws (then_right o front w read))
+    subst (λ (us : SpecWords). Stands us (mix_from (then_class o (class_of w)) ws)) (append_next front w ws)
+    (from_right (then_class o (class_of w)) (pushed front w) ws (then_right o front w read))
 
 none_read : AreRead no_mix no_words
 none_read = record { types = (refl, refl, IsPermutation-refl []); storing = IsPermutation-refl [] }
@@ -87,4 +90,6 @@ some_stands ws None none begun = absurd (none begun)
 some_stands ws (Some mix) read begun = refl
 
 pub mixes_go_on : MixesGoOn
-mixes_go_on ws w more is = ap is_some (sym (mix_pushed ws w)) ∙ some_stands (pushed ws w) (mix_of (pushed ws w)) (mix_right (pushed ws w)) (more, subst IsMix (sym (append_next ws w more)) is)
+mixes_go_on ws w more is =
+    ap is_some (sym (mix_pushed ws w)) ∙ some_stands (pushed ws w) (mix_of (pushed ws w)) (mix_right (pushed ws w))
+    (more, subst IsMix (sym (append_next ws w more)) is)

@@ -16,7 +16,9 @@ WholeAreMixes = (ws : SpecWords) → (is_whole_mix ws ≡ true) ↔ IsMix ws
 
 -- a word of a mix goes on with those before it
 abbrev pub MixesGoOn : Type 0
-MixesGoOn = (ws : SpecWords) (w : SpecWord) (more : SpecWords) → IsMix (append_words ws (more_words w more)) → goes_on ws (class_of w) ≡ true
+MixesGoOn =
+    (ws : SpecWords) (w : SpecWord) (more : SpecWords) → IsMix (append_words ws (more_words w more))
+    → goes_on ws (class_of w) ≡ true
 
 -- the words of a mix have no fault
 abbrev pub MixesHaveNoFault : Type 0
@@ -28,4 +30,6 @@ OneFaultAtMost = (ws : SpecWords) (one other : SpecFault) → IsFault ws one →
 
 -- the tokens of a word with which no mix begins begin with the token of the fault
 abbrev pub BadTokensBegin : Type 0
-BadTokensBegin = (all : List Lexeme) (ws : SpecWords) (token : ℕ) (k : List Lexeme) → (bad : IsFirstBadWord ws token) → number_of_first (spec_word_text all bad.word k) ≡ Some token
+BadTokensBegin =
+    (all : List Lexeme) (ws : SpecWords) (token : ℕ) (k : List Lexeme) → (bad : IsFirstBadWord ws token)
+    → number_of_first (spec_word_text all bad.word k) ≡ Some token

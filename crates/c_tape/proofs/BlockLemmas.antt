@@ -8,6 +8,7 @@ use Rattle.c_tree.specs.Lists.{exprs_from}
 use Rattle.c_tape.specs.Tape.{count}
 use Rattle.c_tape.specs.Tests.{ends_in_value, is_value_item}
 
+-- a block ends in a value where its last item is one
 pub ends_as_last : (items : List rust_block_item.BlockItem) (item : rust_block_item.BlockItem)
     → ends_in_value (block_items_from (items ++ item ∷ [])) ≡ is_value_item (block_item_of item)
 ends_as_last [] item = refl

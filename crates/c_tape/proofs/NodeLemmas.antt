@@ -26,35 +26,46 @@ use Rattle.c_syntax.specs.declared.declaration.Decl.TheViews as views
 use Rattle.c_tree.proofs.ViewLemmas as nodes
 
 pub init_list_is : (list : rust_init_list.InitList) →
-    init_list_of list ≡ tree.init_list (views.out-InitList list).«open» (init_items_from (views.out-InitList list).items.items) (views.out-InitList list).comma (views.out-InitList list).close
+    init_list_of list
+    ≡ tree.init_list (views.out-InitList list).«open» (init_items_from (views.out-InitList list).items.items)
+    (views.out-InitList list).comma (views.out-InitList list).close
 init_list_is list = nodes.init_list_is list
 
 pub struct_is : (s : Box rust_struct.Struct Global) →
-    spec_word_of (rust_spec_word.Struct s) ≡ tree.struct_type s.value.keyword s.value.attrs.items s.value.tag (some_body_from s.value.body)
+    spec_word_of (rust_spec_word.Struct s)
+    ≡ tree.struct_type s.value.keyword s.value.attrs.items s.value.tag (some_body_from s.value.body)
 struct_is s = nodes.struct_is s
 
 pub member_is : (m : rust_member.Member) →
-    struct_item_of (rust_struct_item.Member m) ≡ tree.member m.extensions.items (spec_words_from m.specs.words.items) (mem_declrs_from m.declrs.items) m.semi
+    struct_item_of (rust_struct_item.Member m)
+    ≡ tree.member m.extensions.items (spec_words_from m.specs.words.items) (mem_declrs_from m.declrs.items) m.semi
 member_is m = nodes.member_is m
 
-pub named_is : (d : Box rust_declr.Declr Global) (width : Option (Marked (Box rust_expr.Expr Global))) (attrs : Vec Attr Global) →
-    mem_declr_of (rust_mem_declr.Named d width attrs) ≡ tree.named (declr_of d.value) (some_value_from width) attrs.items
+pub named_is : (d : Box rust_declr.Declr Global) (width : Option (Marked (Box rust_expr.Expr Global)))
+    (attrs : Vec Attr Global) →
+    mem_declr_of (rust_mem_declr.Named d width attrs)
+    ≡ tree.named (declr_of d.value) (some_value_from width) attrs.items
 named_is d width attrs = nodes.named_is d width attrs
 
 pub enum_is : (e : rust_enum.Enum) →
-    enum_type_of e ≡ tree.enum_of (views.out-Enum e).keyword (views.out-Enum e).attrs.items (views.out-Enum e).tag (some_enum_body_from (views.out-Enum e).body)
+    enum_type_of e ≡ tree.enum_of (views.out-Enum e).keyword (views.out-Enum e).attrs.items (views.out-Enum e).tag
+    (some_enum_body_from (views.out-Enum e).body)
 enum_is e = nodes.enum_is e
 
 pub declaration_is : (d : rust_declaration.Declaration) →
-    declaration_of d ≡ tree.declaration (views.out-Declaration d).extensions.items (spec_words_from (views.out-Declaration d).specs.words.items) (init_declrs_from (views.out-Declaration d).declrs.items) (views.out-Declaration d).semi
+    declaration_of d ≡ tree.declaration (views.out-Declaration d).extensions.items
+    (spec_words_from (views.out-Declaration d).specs.words.items)
+    (init_declrs_from (views.out-Declaration d).declrs.items) (views.out-Declaration d).semi
 declaration_is d = nodes.declaration_is d
 
 pub typeof_type_is : (word : Word) (opening : ℕ) (t : rust_type_name.TypeName) (closing : ℕ) →
-    spec_word_of (rust_spec_word.TypeofType word opening t closing) ≡ tree.typeof_type word opening (spec_words_from t.specs.words.items) (some_declr_from t.declr) closing
+    spec_word_of (rust_spec_word.TypeofType word opening t closing)
+    ≡ tree.typeof_type word opening (spec_words_from t.specs.words.items) (some_declr_from t.declr) closing
 typeof_type_is word opening t closing = nodes.typeof_type_is word opening t closing
 
 pub typed_assoc_is : (t : rust_type_name.TypeName) (colon : ℕ) (e : Box rust_expr.Expr Global) →
-    assoc_of (rust_assoc.Typed t colon e) ≡ tree.typed_assoc (spec_words_from t.specs.words.items) (some_declr_from t.declr) colon (expr_of e.value)
+    assoc_of (rust_assoc.Typed t colon e)
+    ≡ tree.typed_assoc (spec_words_from t.specs.words.items) (some_declr_from t.declr) colon (expr_of e.value)
 typed_assoc_is t colon e = nodes.typed_assoc_is t colon e
 
 -- associations are as many in the tree

@@ -14,7 +14,9 @@ append_nil xs = append-nil xs
 pub pending_push : (ts : List Task) (t : Task) → pending (ts ++ t ∷ []) ≡ task_tape t ++ pending ts
 unfolding pending
 pending_push [] t = sym (append-nil (task_tape t))
-pending_push (u ∷ ts) t = ap (λ (tape : List Op). tape ++ task_tape u) (pending_push ts t) ∙ append_assoc (task_tape t) (pending ts) (task_tape u)
+pending_push (u ∷ ts) t =
+    ap (λ (tape : List Op). tape ++ task_tape u) (pending_push ts t)
+    ∙ append_assoc (task_tape t) (pending ts) (task_tape u)
 
 -- what holds of a tree holds of an equal one
 pub as_tree : {T : Type 0} (P : T → Type 0) (here there : T) → here ≡ there → P there → P here

@@ -22,7 +22,9 @@ boxed_tape e = expr_tape false (expr_of e.value)
 
 -- the tape of a type name
 abbrev pub type_tape : List rust_spec_word.SpecWord → Option (Box rust_declr.Declr Global) → List Op
-type_tape words d = type_name_with (words_tape false (spec_words_from words)) (some_declr_tape (some_declr_from d)) (first_word (spec_words_from words))
+type_tape words d =
+    type_name_with (words_tape false (spec_words_from words)) (some_declr_tape (some_declr_from d))
+    (first_word (spec_words_from words))
 
 -- a list in braces once more, with the targets of its values
 abbrev pub list_rule : List rust_init_item.InitItem → List Op
@@ -30,12 +32,18 @@ list_rule items = init inits.ListBegin ++ rule_of_items (init_items_from items) 
 
 -- a compound literal behind its type name
 abbrev pub literal_tape : ℕ → List rust_init_item.InitItem → List Op
-literal_tape opening items = init inits.Begin ++ init_items_tape (init_items_from items) ++ init (inits.Literal opening) ++ list_rule items ++ init inits.LiteralEnd
+literal_tape opening items =
+    init inits.Begin ++ init_items_tape (init_items_from items) ++ init (inits.Literal opening) ++ list_rule items
+    ++ init inits.LiteralEnd
 
 -- the tape of a declaration, by its semicolon, its specifiers and its declarators
 abbrev pub declaration_of_parts : ℕ → SpecWords → InitDeclrs → List Op
-declaration_of_parts semi words ds = specs_with (words_tape (declares_tag words ds) words) ++ (if are_auto words ds then auto_declrs_tape semi ds else init_declrs_tape ds) ++ declr declrs.DeclarationEnd
+declaration_of_parts semi words ds =
+    specs_with (words_tape (declares_tag words ds) words)
+    ++ (if are_auto words ds then auto_declrs_tape semi ds else init_declrs_tape ds) ++ declr declrs.DeclarationEnd
 
 -- the tape of such a declaration behind a list of identifiers
 abbrev pub old_declaration_of_parts : ℕ → SpecWords → InitDeclrs → List Op
-old_declaration_of_parts semi words ds = specs_with (words_tape (declares_tag words ds) words) ++ (if are_auto words ds then auto_declrs_tape semi ds else old_declrs_tape ds) ++ declr declrs.DeclarationEnd
+old_declaration_of_parts semi words ds =
+    specs_with (words_tape (declares_tag words ds) words)
+    ++ (if are_auto words ds then auto_declrs_tape semi ds else old_declrs_tape ds) ++ declr declrs.DeclarationEnd

@@ -106,11 +106,13 @@ abbrev mutual
   pieces (declr_name token name) = []
   pieces (declr_paren opening attrs d closing) = pieces d
   pieces (array d opening words size closing) = array_words_tape words ++ declr declrs.Array ++ pieces d
-  pieces (params d opening ps dots closing) = dots_tape dots ++ declr (declrs.Function (has_ellipsis ps dots)) ++ pieces d
+  pieces (params d opening ps dots closing) =
+      dots_tape dots ++ declr (declrs.Function (has_ellipsis ps dots)) ++ pieces d
   pieces (abs_pointer star words d) = pointer_words_tape words ++ declr declrs.Pointer ++ some_pieces d
   pieces (abs_paren opening attrs d closing) = pieces d
   pieces (abs_array d opening words size closing) = array_words_tape words ++ declr declrs.Array ++ some_pieces d
-  pieces (abs_params d opening ps dots closing) = dots_tape dots ++ declr (declrs.Function (has_ellipsis ps dots)) ++ some_pieces d
+  pieces (abs_params d opening ps dots closing) =
+      dots_tape dots ++ declr (declrs.Function (has_ellipsis ps dots)) ++ some_pieces d
   pieces (identifiers d opening names closing) = declr (declrs.Function false) ++ pieces d
   pieces (base_name token) = []
 
@@ -141,7 +143,8 @@ abbrev mutual
 
   -- a braced list, once more
   pub rule_of_list : InitList → List Op
-  rule_of_list (init_list opening items last closing) = init inits.ListBegin ++ rule_of_items items ++ init inits.ListEnd
+  rule_of_list (init_list opening items last closing) =
+      init inits.ListBegin ++ rule_of_items items ++ init inits.ListEnd
 
   -- the items of a list, each behind what its designators choose, once more
   pub rule_of_items : InitItems → List Op
@@ -182,7 +185,8 @@ operator_tape (binary p) token first last = expr (exprs.Binary p token first las
 -- a tag without a body
 abbrev pub tag_tape : Bool → TagKind → Option Identifier → List Op
 tag_tape is_alone kind None = []
-tag_tape is_alone kind (Some tag) = if is_alone then spec (specs.TagAlone kind tag.token tag.name) else spec (specs.TagUse kind tag.token tag.name)
+tag_tape is_alone kind (Some tag) =
+    if is_alone then spec (specs.TagAlone kind tag.token tag.name) else spec (specs.TagUse kind tag.token tag.name)
 
 -- the beginning of a body
 abbrev pub body_tape : TagKind → ℕ → Option Identifier → List Op
@@ -237,41 +241,66 @@ params_with own none tape = declr (declrs.ParamsBegin own) ++ (if none then [] e
 -- an operator before its operand, from the tape of the operand only addressed and from that of it taken: that of `&` is
 -- only addressed
 abbrev pub prefix_tape : ℕ → Punct → Expr → Bool → List Op → List Op → List Op
-prefix_tape token signs.Ampersand e aims addressed taken = addressed ++ expr (exprs.Prefix signs.Ampersand token (last_token e) (comes_by_pointer false e))
+prefix_tape token signs.Ampersand e aims addressed taken =
+    addressed ++ expr (exprs.Prefix signs.Ampersand token (last_token e) (comes_by_pointer false e))
 prefix_tape token p e aims addressed taken = taken ++ expr (exprs.Prefix p token (last_token e) aims)
 
 abbrev mutual
   -- an expression; `called`: it stands right before the `(` of a call; `aims`: its place is only addressed, and so is
-  -- that of its part
-  -- through parentheses, `__extension__`, parts and members
+  -- that of its part through parentheses, `__extension__`, parts and members
   pub tape_in : Bool → Bool → Expr → List Op
-  tape_in called aims (operation a op token b) = tape_in false false a ++ middle_tape op ++ tape_in false false b ++ operator_tape op token (first_token a) (last_token b)
-  tape_in called aims (cast opening ws d closing e) = type_name_with (words_tape false ws) (some_declr_tape d) (first_word ws) ++ tape_in false false e ++ form (forms.Cast opening (last_token e))
+  tape_in called aims (operation a op token b) =
+      tape_in false false a ++ middle_tape op ++ tape_in false false b
+      ++ operator_tape op token (first_token a) (last_token b)
+  tape_in called aims (cast opening ws d closing e) =
+      type_name_with (words_tape false ws) (some_declr_tape d) (first_word ws) ++ tape_in false false e
+      ++ form (forms.Cast opening (last_token e))
   tape_in called aims (prefix token p e) = prefix_tape token p e aims (tape_in false true e) (tape_in false false e)
-  tape_in called aims (sizeof_value word e) = stmt stmts.Quiet ++ tape_in false false e ++ form (forms.Sizeof word.token)
-  tape_in called aims (sizeof_type word opening ws d closing) = stmt stmts.Quiet ++ type_name_with (words_tape false ws) (some_declr_tape d) (first_word ws) ++ form (forms.Sizeof word.token)
+  tape_in called aims (sizeof_value word e) =
+      stmt stmts.Quiet ++ tape_in false false e ++ form (forms.Sizeof word.token)
+  tape_in called aims (sizeof_type word opening ws d closing) =
+      stmt stmts.Quiet ++ type_name_with (words_tape false ws) (some_declr_tape d) (first_word ws)
+      ++ form (forms.Sizeof word.token)
   tape_in called aims (extension keyword e) = tape_in false aims e ++ expr (exprs.Ext keyword)
-  tape_in called aims (index a opening b closing) = tape_in false false a ++ tape_in false false b ++ expr (exprs.Index opening (first_token a) closing aims)
-  tape_in called aims (call f opening es closing) = tape_in true false f ++ exprs_tape es ++ arguments es ++ expr (exprs.Call opening (count es))
+  tape_in called aims (index a opening b closing) =
+      tape_in false false a ++ tape_in false false b ++ expr (exprs.Index opening (first_token a) closing aims)
+  tape_in called aims (call f opening es closing) =
+      tape_in true false f ++ exprs_tape es ++ arguments es ++ expr (exprs.Call opening (count es))
   tape_in called aims (dot e token name) = tape_in false aims e ++ expr (exprs.Dot token name.token name.name)
-  tape_in called aims (arrow e token name) = tape_in false false e ++ expr (exprs.Arrow token (first_token e) name.token aims) ++ expr (exprs.Dot token name.token name.name)
+  tape_in called aims (arrow e token name) =
+      tape_in false false e ++ expr (exprs.Arrow token (first_token e) name.token aims)
+      ++ expr (exprs.Dot token name.token name.name)
   tape_in called aims (post e token p) = tape_in false false e ++ expr (exprs.Post p token (first_token e))
-  tape_in called aims (compound opening ws d closing list) = type_name_with (words_tape false ws) (some_declr_tape d) (first_word ws) ++ init inits.Begin ++ list_tape list ++ init (inits.Literal opening) ++ rule_of_list list ++ init inits.LiteralEnd
+  tape_in called aims (compound opening ws d closing list) =
+      type_name_with (words_tape false ws) (some_declr_tape d) (first_word ws) ++ init inits.Begin ++ list_tape list
+      ++ init (inits.Literal opening) ++ rule_of_list list ++ init inits.LiteralEnd
   tape_in called aims (name_use token name) = expr (exprs.Name called token name)
   tape_in called aims (number_use token) = expr (exprs.Number token)
   tape_in called aims (char_use token) = expr (exprs.Char token)
   tape_in called aims (text_use texts) = expr (exprs.Text (first_text texts))
   tape_in called aims (paren opening e closing) = tape_in false aims e ++ expr (exprs.Paren opening)
-  tape_in called aims (statement_expr opening opening2 items closing closing2) = in_scope (block_items_tape true items) ++ form (forms.StmtExpr (ends_in_value items) opening)
-  tape_in called aims (va_arg keyword opening e separator ws d closing) = tape_in false false e ++ type_name_with (words_tape false ws) (some_declr_tape d) (first_word ws) ++ form (forms.VaArg keyword closing)
-  tape_in called aims (va_start keyword opening a separator b closing) = tape_in false false a ++ tape_in false false b ++ form (forms.VaStart keyword closing)
-  tape_in called aims (va_copy keyword opening a separator b closing) = tape_in false false a ++ tape_in false false b ++ form (forms.VaCopy keyword closing)
-  tape_in called aims (offset keyword opening ws d separator name steps closing) = stmt stmts.Quiet ++ type_name_with (words_tape false ws) (some_declr_tape d) (first_word ws) ++ form (forms.OffsetMember name.token name.name) ++ steps_tape steps ++ form (forms.Offset keyword)
+  tape_in called aims (statement_expr opening opening2 items closing closing2) =
+      in_scope (block_items_tape true items) ++ form (forms.StmtExpr (ends_in_value items) opening)
+  tape_in called aims (va_arg keyword opening e separator ws d closing) =
+      tape_in false false e ++ type_name_with (words_tape false ws) (some_declr_tape d) (first_word ws)
+      ++ form (forms.VaArg keyword closing)
+  tape_in called aims (va_start keyword opening a separator b closing) =
+      tape_in false false a ++ tape_in false false b ++ form (forms.VaStart keyword closing)
+  tape_in called aims (va_copy keyword opening a separator b closing) =
+      tape_in false false a ++ tape_in false false b ++ form (forms.VaCopy keyword closing)
+  tape_in called aims (offset keyword opening ws d separator name steps closing) =
+      stmt stmts.Quiet ++ type_name_with (words_tape false ws) (some_declr_tape d) (first_word ws)
+      ++ form (forms.OffsetMember name.token name.name) ++ steps_tape steps ++ form (forms.Offset keyword)
   tape_in called aims (complex_part keyword e) = tape_in false aims e ++ expr (exprs.Ext keyword)
   tape_in called aims (label_use token name) = expr (exprs.Label token)
-  tape_in called aims (compat keyword opening ws d separator ws2 d2 closing) = stmt stmts.Quiet ++ type_name_with (words_tape false ws) (some_declr_tape d) (first_word ws) ++ type_name_with (words_tape false ws2) (some_declr_tape d2) (first_word ws2) ++ form (forms.Compat keyword)
-  tape_in called aims (choose keyword opening e separator a separator2 b closing) = quietly (tape_in false false e) ++ tape_in false false a ++ tape_in false false b ++ form (forms.Choose keyword)
-  tape_in called aims (generic keyword opening e xs closing) = stmt stmts.Quiet ++ tape_in false false e ++ form forms.Control ++ assocs_tape xs ++ form (forms.Generic keyword (assoc_count xs))
+  tape_in called aims (compat keyword opening ws d separator ws2 d2 closing) =
+      stmt stmts.Quiet ++ type_name_with (words_tape false ws) (some_declr_tape d) (first_word ws)
+      ++ type_name_with (words_tape false ws2) (some_declr_tape d2) (first_word ws2) ++ form (forms.Compat keyword)
+  tape_in called aims (choose keyword opening e separator a separator2 b closing) =
+      quietly (tape_in false false e) ++ tape_in false false a ++ tape_in false false b ++ form (forms.Choose keyword)
+  tape_in called aims (generic keyword opening e xs closing) =
+      stmt stmts.Quiet ++ tape_in false false e ++ form forms.Control ++ assocs_tape xs
+      ++ form (forms.Generic keyword (assoc_count xs))
 
   -- the associations of `_Generic`
   pub assocs_tape : Assocs → List Op
@@ -280,7 +309,8 @@ abbrev mutual
 
   -- an association: its type, or none, and then its expression
   pub assoc_tape : Assoc → List Op
-  assoc_tape (typed_assoc ws d colon e) = type_name_with (words_tape false ws) (some_declr_tape d) (first_word ws) ++ tape_in false false e
+  assoc_tape (typed_assoc ws d colon e) =
+      type_name_with (words_tape false ws) (some_declr_tape d) (first_word ws) ++ tape_in false false e
   assoc_tape (default_assoc keyword colon e) = form forms.NoType ++ tape_in false false e
 
   -- what stands between the operands of `?:`
@@ -314,7 +344,8 @@ abbrev mutual
   pub step_tape : Desig → List Op
   step_tape (member_desig before name) = form (forms.OffsetMember name.token name.name)
   step_tape (index_desig opening e closing) = tape_in false false e ++ form (forms.OffsetIndex opening)
-  step_tape (range_desig opening e dots e2 closing) = tape_in false false e ++ quietly (tape_in false false e2) ++ form (forms.OffsetIndex opening)
+  step_tape (range_desig opening e dots e2 closing) =
+      tape_in false false e ++ quietly (tape_in false false e2) ++ form (forms.OffsetIndex opening)
   step_tape (old_desig name colon) = form (forms.OffsetMember name.token name.name)
 
   -- the words of specifiers; `alone`: they are a declaration of nothing but a tag
@@ -334,15 +365,20 @@ abbrev mutual
   word_tape alone (enum_type e) = enum_tape e
   word_tape alone (typedef_name name) = spec (specs.Typedef name.token name.name)
   word_tape alone (attribute attr) = []
-  word_tape alone (typeof_value keyword opening e closing) = stmt stmts.Quiet ++ spec specs.PartBegin ++ tape_in false false e ++ spec (specs.TypeofEnd closing) ++ stmt stmts.Loud
-  word_tape alone (typeof_type word opening ws d closing) = spec specs.PartBegin ++ type_name_with (words_tape false ws) (some_declr_tape d) (first_word ws) ++ spec specs.TypeEnd
+  word_tape alone (typeof_value keyword opening e closing) =
+      stmt stmts.Quiet ++ spec specs.PartBegin ++ tape_in false false e ++ spec (specs.TypeofEnd closing)
+      ++ stmt stmts.Loud
+  word_tape alone (typeof_type word opening ws d closing) =
+      spec specs.PartBegin ++ type_name_with (words_tape false ws) (some_declr_tape d) (first_word ws)
+      ++ spec specs.TypeEnd
   word_tape alone (align attr) = []
   word_tape alone (auto_word token) = []
 
   -- a struct or union: the use of its tag, or its body
   pub struct_tape : Bool → TagKind → ℕ → Option Identifier → SomeBody → List Op
   struct_tape alone kind keyword tag no_body = tag_tape alone kind tag
-  struct_tape alone kind keyword tag (some_body opening items closing) = body_tape kind keyword tag ++ struct_items_tape items ++ spec specs.BodyEnd
+  struct_tape alone kind keyword tag (some_body opening items closing) =
+      body_tape kind keyword tag ++ struct_items_tape items ++ spec specs.BodyEnd
 
   -- the members of a struct or union
   pub struct_items_tape : StructItems → List Op
@@ -351,7 +387,8 @@ abbrev mutual
 
   -- a member's declaration; a semicolon or an assertion alone says nothing
   pub struct_item_tape : StructItem → List Op
-  struct_item_tape (member extensions ws ds semi) = specs_with (words_tape false ws) ++ members_tape ws ds ++ declr declrs.DeclarationEnd
+  struct_item_tape (member extensions ws ds semi) =
+      specs_with (words_tape false ws) ++ members_tape ws ds ++ declr declrs.DeclarationEnd
   struct_item_tape (member_semi semi) = []
   struct_item_tape (member_assert it) = []
 
@@ -382,12 +419,14 @@ abbrev mutual
   -- an enumeration: the use of its tag, or its body
   pub enum_body_tape : ℕ → Option Identifier → SomeEnumBody → List Op
   enum_body_tape keyword tag no_enum_body = tag_tape false tags.Enum tag
-  enum_body_tape keyword tag (some_enum_body opening es last closing) = body_tape tags.Enum keyword tag ++ enumerators_tape es ++ spec specs.BodyEnd
+  enum_body_tape keyword tag (some_enum_body opening es last closing) =
+      body_tape tags.Enum keyword tag ++ enumerators_tape es ++ spec specs.BodyEnd
 
   -- the enumerators of an enumeration, each behind its value
   pub enumerators_tape : Enumerators → List Op
   enumerators_tape no_enumerators = []
-  enumerators_tape (more_enumerators name attrs value es) = some_value_tape value ++ spec (specs.Enumerator name.token name.name) ++ enumerators_tape es
+  enumerators_tape (more_enumerators name attrs value es) =
+      some_value_tape value ++ spec (specs.Enumerator name.token name.name) ++ enumerators_tape es
 
   -- a declarator that may be absent
   pub some_declr_tape : SomeDeclr → List Op
@@ -400,12 +439,15 @@ abbrev mutual
   contents own (declr_name token name) = declr (declrs.DeclName token name)
   contents own (declr_paren opening attrs d closing) = contents own d
   contents own (array d opening words size closing) = contents own d ++ some_size_tape size
-  contents own (params d opening ps dots closing) = contents own d ++ params_with (own && is_name d) (says_none ps) (params_tape ps)
+  contents own (params d opening ps dots closing) =
+      contents own d ++ params_with (own && is_name d) (says_none ps) (params_tape ps)
   contents own (abs_pointer star words d) = some_contents d
   contents own (abs_paren opening attrs d closing) = contents own d
   contents own (abs_array d opening words size closing) = some_contents d ++ some_size_tape size
-  contents own (abs_params d opening ps dots closing) = some_contents d ++ params_with false (says_none ps) (params_tape ps)
-  contents own (identifiers d opening names closing) = contents own d ++ declr (declrs.ParamsBegin false) ++ declr declrs.ParamsEnd
+  contents own (abs_params d opening ps dots closing) =
+      some_contents d ++ params_with false (says_none ps) (params_tape ps)
+  contents own (identifiers d opening names closing) =
+      contents own d ++ declr (declrs.ParamsBegin false) ++ declr declrs.ParamsEnd
   contents own (base_name token) = []
 
   -- the parameters and sizes of a declarator that may be absent
@@ -426,7 +468,8 @@ abbrev mutual
   -- the parameters of a function declarator
   pub params_tape : Params → List Op
   params_tape no_params = []
-  params_tape (more_params ws d attrs ps) = specs_with (words_tape false ws) ++ some_declr_tape d ++ declr declrs.Param ++ params_tape ps
+  params_tape (more_params ws d attrs ps) =
+      specs_with (words_tape false ws) ++ some_declr_tape d ++ declr declrs.Param ++ params_tape ps
 
   -- the expressions of an initialiser
   pub init_tape : Init → List Op
@@ -451,7 +494,8 @@ abbrev mutual
   pub index_tape : Desig → List Op
   index_tape (member_desig before name) = []
   index_tape (index_desig opening e closing) = quietly (tape_in false false e)
-  index_tape (range_desig opening e dots e2 closing) = quietly (tape_in false false e) ++ quietly (tape_in false false e2)
+  index_tape (range_desig opening e dots e2 closing) =
+      quietly (tape_in false false e) ++ quietly (tape_in false false e2)
   index_tape (old_desig name colon) = []
 
   -- the initialiser of the name that was declared last
@@ -462,26 +506,33 @@ abbrev mutual
   -- an initialiser: one value, or the values of a list and then what each of them initialises
   pub declared_init_tape : Init → List Op
   declared_init_tape (init_value e) = tape_in false false e ++ init (inits.Value (first_token e) (last_token e))
-  declared_init_tape (init_braced list) = init inits.Begin ++ list_tape list ++ init inits.Rule ++ rule_of_list list ++ init inits.End
+  declared_init_tape (init_braced list) =
+      init inits.Begin ++ list_tape list ++ init inits.Rule ++ rule_of_list list ++ init inits.End
 
   -- the declarators of a declaration, each with its initialiser
   pub init_declrs_tape : InitDeclrs → List Op
   init_declrs_tape no_init_declrs = []
-  init_declrs_tape (more_init_declrs attrs d asm_label attrs2 i ds) = contents false d ++ pieces d ++ declr declrs.Declare ++ some_init_tape i ++ init_declrs_tape ds
+  init_declrs_tape (more_init_declrs attrs d asm_label attrs2 i ds) =
+      contents false d ++ pieces d ++ declr declrs.Declare ++ some_init_tape i ++ init_declrs_tape ds
 
   -- a declaration
   pub declaration_tape : Declaration → List Op
-  declaration_tape (declaration extensions ws ds semi) = specs_with (words_tape (declares_tag ws ds) ws) ++ (if are_auto ws ds then auto_declrs_tape semi ds else init_declrs_tape ds) ++ declr declrs.DeclarationEnd
+  declaration_tape (declaration extensions ws ds semi) =
+      specs_with (words_tape (declares_tag ws ds) ws)
+      ++ (if are_auto ws ds then auto_declrs_tape semi ds else init_declrs_tape ds) ++ declr declrs.DeclarationEnd
 
   -- the declarator of a name that has the type of its initialiser
   pub auto_declrs_tape : ℕ → InitDeclrs → List Op
   auto_declrs_tape semi no_init_declrs = []
-  auto_declrs_tape semi (more_init_declrs attrs d asm_label attrs2 i ds) = contents false d ++ auto_init_tape semi i ++ auto_declrs_tape semi ds
+  auto_declrs_tape semi (more_init_declrs attrs d asm_label attrs2 i ds) =
+      contents false d ++ auto_init_tape semi i ++ auto_declrs_tape semi ds
 
   -- the initialiser that gives a name its type; one in braces gives none
   pub auto_init_tape : ℕ → SomeInit → List Op
   auto_init_tape semi no_init = []
-  auto_init_tape semi (some_init equal (init_value e)) = declr declrs.AutoBegin ++ tape_in false false e ++ declr (declrs.AutoEnd semi) ++ init (inits.Value (first_token e) (last_token e))
+  auto_init_tape semi (some_init equal (init_value e)) =
+      declr declrs.AutoBegin ++ tape_in false false e ++ declr (declrs.AutoEnd semi)
+      ++ init (inits.Value (first_token e) (last_token e))
   auto_init_tape semi (some_init equal (init_braced list)) = []
 
   -- a declaration; a `_Static_assert` says nothing
@@ -492,7 +543,8 @@ abbrev mutual
   -- the items of a block; `kept`: the value of the last one is that of the block
   pub block_items_tape : Bool → BlockItems → List Op
   block_items_tape kept no_block_items = []
-  block_items_tape kept (more_block_items item items) = block_item_tape (kept && is_end items) item ++ block_items_tape kept items
+  block_items_tape kept (more_block_items item items) =
+      block_item_tape (kept && is_end items) item ++ block_items_tape kept items
 
   -- an item of a block; `kept`: its value is that of the block
   pub block_item_tape : Bool → BlockItem → List Op
@@ -508,17 +560,23 @@ abbrev mutual
   stmt_tape kept (label name colon attrs s) = stmt_tape false s
   stmt_tape kept (case_stmt keyword e colon s) = quietly (tape_in false false e) ++ stmt_tape false s
   stmt_tape kept (default_stmt keyword colon s) = stmt_tape false s
-  stmt_tape kept (if_stmt keyword opening e closing s other) = in_scope (tape_in false false e ++ stmt stmts.Pop ++ in_scope (stmt_tape false s) ++ some_else_tape other)
-  stmt_tape kept (switch_stmt keyword opening e closing s) = in_scope (tape_in false false e ++ stmt stmts.Pop ++ in_scope (stmt_tape false s))
-  stmt_tape kept (while_stmt keyword opening e closing s) = in_scope (tape_in false false e ++ stmt stmts.Pop ++ in_scope (stmt_tape false s))
-  stmt_tape kept (do_stmt keyword s keyword2 opening e closing semi) = in_scope (in_scope (stmt_tape false s) ++ tape_in false false e ++ stmt stmts.Pop)
-  stmt_tape kept (for_stmt keyword opening start e semi e2 closing s) = in_scope (for_start_tape start ++ dropped_tape e ++ dropped_tape e2 ++ in_scope (stmt_tape false s))
+  stmt_tape kept (if_stmt keyword opening e closing s other) =
+      in_scope (tape_in false false e ++ stmt stmts.Pop ++ in_scope (stmt_tape false s) ++ some_else_tape other)
+  stmt_tape kept (switch_stmt keyword opening e closing s) =
+      in_scope (tape_in false false e ++ stmt stmts.Pop ++ in_scope (stmt_tape false s))
+  stmt_tape kept (while_stmt keyword opening e closing s) =
+      in_scope (tape_in false false e ++ stmt stmts.Pop ++ in_scope (stmt_tape false s))
+  stmt_tape kept (do_stmt keyword s keyword2 opening e closing semi) =
+      in_scope (in_scope (stmt_tape false s) ++ tape_in false false e ++ stmt stmts.Pop)
+  stmt_tape kept (for_stmt keyword opening start e semi e2 closing s) =
+      in_scope (for_start_tape start ++ dropped_tape e ++ dropped_tape e2 ++ in_scope (stmt_tape false s))
   stmt_tape kept (goto_stmt keyword name semi) = []
   stmt_tape kept (continue_stmt keyword semi) = []
   stmt_tape kept (break_stmt keyword semi) = []
   stmt_tape kept (return_stmt keyword e semi) = return_tape keyword e semi
   stmt_tape kept (asm_stmt keyword words group semi) = []
-  stmt_tape kept (case_range keyword e dots e2 colon s) = quietly (tape_in false false e) ++ quietly (tape_in false false e2) ++ stmt_tape false s
+  stmt_tape kept (case_range keyword e dots e2 colon s) =
+      quietly (tape_in false false e) ++ quietly (tape_in false false e2) ++ stmt_tape false s
   stmt_tape kept (goto_value keyword star e semi) = tape_in false false e ++ stmt stmts.Pop
 
   -- the statement behind `else`, if any
@@ -552,11 +610,14 @@ identifiers_tape (name ∷ names) = declr (declrs.Identifier name.token name.nam
 -- the declarators of a declaration of parameters
 abbrev pub old_declrs_tape : InitDeclrs → List Op
 old_declrs_tape no_init_declrs = []
-old_declrs_tape (more_init_declrs attrs d asm_label attrs2 i ds) = contents false d ++ pieces d ++ declr declrs.OldParam ++ some_init_tape i ++ old_declrs_tape ds
+old_declrs_tape (more_init_declrs attrs d asm_label attrs2 i ds) =
+    contents false d ++ pieces d ++ declr declrs.OldParam ++ some_init_tape i ++ old_declrs_tape ds
 
 -- a declaration of parameters behind a list of identifiers
 abbrev pub old_declaration_tape : Declaration → List Op
-old_declaration_tape (declaration extensions ws ds semi) = specs_with (words_tape (declares_tag ws ds) ws) ++ (if are_auto ws ds then auto_declrs_tape semi ds else old_declrs_tape ds) ++ declr declrs.DeclarationEnd
+old_declaration_tape (declaration extensions ws ds semi) =
+    specs_with (words_tape (declares_tag ws ds) ws)
+    ++ (if are_auto ws ds then auto_declrs_tape semi ds else old_declrs_tape ds) ++ declr declrs.DeclarationEnd
 
 -- the declarations behind a list of identifiers
 abbrev pub old_declarations_tape : List Declaration → List Op
@@ -567,11 +628,14 @@ old_declarations_tape (d ∷ ds) = old_declaration_tape d ++ old_declarations_ta
 abbrev mutual
   -- the name, the identifiers with their declarations, and the sizes of such a declarator
   pub old_contents : List Declaration → Declr → List Op
-  old_contents ds (identifiers d opening names closing) = contents false d ++ declr (declrs.ParamsBegin true) ++ identifiers_tape names ++ old_declarations_tape ds ++ declr declrs.ParamsEnd
+  old_contents ds (identifiers d opening names closing) =
+      contents false d ++ declr (declrs.ParamsBegin true) ++ identifiers_tape names ++ old_declarations_tape ds
+      ++ declr declrs.ParamsEnd
   old_contents ds (pointer star words d) = old_contents ds d
   old_contents ds (declr_paren opening attrs d closing) = old_contents ds d
   old_contents ds (array d opening words size closing) = old_contents ds d ++ some_size_tape size
-  old_contents ds (params d opening ps dots closing) = old_contents ds d ++ params_with false (says_none ps) (params_tape ps)
+  old_contents ds (params d opening ps dots closing) =
+      old_contents ds d ++ params_with false (says_none ps) (params_tape ps)
   old_contents ds (declr_name token name) = contents false (declr_name token name)
   old_contents ds (base_name token) = contents false (base_name token)
   old_contents ds (abs_pointer star words d) = contents false (abs_pointer star words d)
@@ -581,8 +645,12 @@ abbrev mutual
 
 -- an item of a unit
 abbrev pub item_tape : Item → List Op
-item_tape (function_item extensions ws d attrs opening items closing) = specs_with (words_tape false ws) ++ contents true d ++ pieces d ++ declr declrs.Declare ++ stmt stmts.FunctionBody ++ block_items_tape false items ++ stmt stmts.FunctionEnd ++ declr declrs.DeclarationEnd
-item_tape (old_function_item extensions ws d attrs ds opening items closing) = specs_with (words_tape false ws) ++ old_contents ds d ++ pieces d ++ declr declrs.Declare ++ stmt stmts.FunctionBody ++ block_items_tape false items ++ stmt stmts.FunctionEnd ++ declr declrs.DeclarationEnd
+item_tape (function_item extensions ws d attrs opening items closing) =
+    specs_with (words_tape false ws) ++ contents true d ++ pieces d ++ declr declrs.Declare ++ stmt stmts.FunctionBody
+    ++ block_items_tape false items ++ stmt stmts.FunctionEnd ++ declr declrs.DeclarationEnd
+item_tape (old_function_item extensions ws d attrs ds opening items closing) =
+    specs_with (words_tape false ws) ++ old_contents ds d ++ pieces d ++ declr declrs.Declare ++ stmt stmts.FunctionBody
+    ++ block_items_tape false items ++ stmt stmts.FunctionEnd ++ declr declrs.DeclarationEnd
 item_tape (decl_item d) = decl_tape d
 item_tape (asm_item keyword group semi) = []
 item_tape (semi_item semi) = []

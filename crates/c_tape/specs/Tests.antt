@@ -153,7 +153,6 @@ have_values no_init_declrs = true
 have_values (more_init_declrs attrs d asm_label attrs2 init ds) = has_value init && have_values ds
 
 -- whether the names of a declaration have the types of their initialisers; without those, as in no well-formed unit, it
--- is one
--- like any other
+-- is one like any other
 abbrev pub are_auto : SpecWords → InitDeclrs → Bool
 are_auto words ds = has_auto words && have_values ds

@@ -6,6 +6,7 @@ use Rattle.c_tree.specs.Text.{expr_text}
 use Rattle.c_tree.specs.WellFormed.{IsExpr}
 use Rattle.c_tree.specs.Ends.{first_token, number_of_first}
 
+-- the tokens of a well-formed expression begin with the number of its first token
 pub first_is : (all : List Lexeme) (e : Expr) (k : List Lexeme) → IsExpr all e
     → number_of_first (expr_text all e k) ≡ Some (first_token e)
 first_is all (operation e op token e2) k h = first_is all e _ h.0

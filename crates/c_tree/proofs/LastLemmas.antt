@@ -62,11 +62,13 @@ names_end : (names : List Identifier) {o k : List Lexeme} → EndsWith o k → E
 names_end [] h = h
 names_end (name ∷ names) h = later (other_names_end names h)
 
+-- the last of several texts is the last of those behind the first
 last_step : (token next : ℕ) (tokens : List ℕ) → last_text (next ∷ tokens) ≡ last_text (token ∷ next ∷ tokens)
 last_step token next tokens =
     let here : suc (length tokens) - 1 ≡ length tokens = omega arith in
     let there : suc (suc (length tokens)) - 1 ≡ suc (length tokens) = omega arith in
-    ap (λ (n : ℕ). or_zero (slice_get (next ∷ tokens) n)) here ∙ sym (ap (λ (n : ℕ). or_zero (slice_get (token ∷ next ∷ tokens) n)) there)
+    ap (λ (n : ℕ). or_zero (slice_get (next ∷ tokens) n)) here
+    ∙ sym (ap (λ (n : ℕ). or_zero (slice_get (token ∷ next ∷ tokens) n)) there)
 
 -- the last of texts, which are at least one
 last_text_is : (token : ℕ) (tokens : List ℕ) (k : List Lexeme)
@@ -131,21 +133,29 @@ module _ (all : List Lexeme) where
     expr_end (dot e token name) h = expr_end e (later (later h))
     expr_end (arrow e token name) h = expr_end e (later (later h))
     expr_end (post e token p) h = expr_end e (later h)
-    expr_end (compound opening ws d closing list) h = later (spec_words_end ws (some_declr_end d (later (init_list_end list h))))
+    expr_end (compound opening ws d closing list) h =
+        later (spec_words_end ws (some_declr_end d (later (init_list_end list h))))
     expr_end (name_use token name) h = later h
     expr_end (number_use token) h = later h
     expr_end (char_use token) h = later h
     expr_end (text_use texts) h = texts_end texts h
     expr_end (paren opening e closing) h = later (expr_end e (later h))
-    expr_end (statement_expr opening opening2 items closing closing2) h = later (later (block_items_end items (later (later h))))
-    expr_end (va_arg keyword opening e separator ws d closing) h = later (later (expr_end e (later (spec_words_end ws (some_declr_end d (later h))))))
-    expr_end (va_start keyword opening e separator e2 closing) h = later (later (expr_end e (later (expr_end e2 (later h)))))
-    expr_end (va_copy keyword opening e separator e2 closing) h = later (later (expr_end e (later (expr_end e2 (later h)))))
-    expr_end (offset keyword opening ws d separator name steps closing) h = later (later (spec_words_end ws (some_declr_end d (later (later (desigs_end steps (later h)))))))
+    expr_end (statement_expr opening opening2 items closing closing2) h =
+        later (later (block_items_end items (later (later h))))
+    expr_end (va_arg keyword opening e separator ws d closing) h =
+        later (later (expr_end e (later (spec_words_end ws (some_declr_end d (later h))))))
+    expr_end (va_start keyword opening e separator e2 closing) h =
+        later (later (expr_end e (later (expr_end e2 (later h)))))
+    expr_end (va_copy keyword opening e separator e2 closing) h =
+        later (later (expr_end e (later (expr_end e2 (later h)))))
+    expr_end (offset keyword opening ws d separator name steps closing) h =
+        later (later (spec_words_end ws (some_declr_end d (later (later (desigs_end steps (later h)))))))
     expr_end (complex_part keyword e) h = later (expr_end e h)
     expr_end (label_use token name) h = later (later h)
-    expr_end (compat keyword opening ws d separator ws2 d2 closing) h = later (later (spec_words_end ws (some_declr_end d (later (spec_words_end ws2 (some_declr_end d2 (later h)))))))
-    expr_end (choose keyword opening e separator e2 separator2 e3 closing) h = later (later (expr_end e (later (expr_end e2 (later (expr_end e3 (later h)))))))
+    expr_end (compat keyword opening ws d separator ws2 d2 closing) h =
+        later (later (spec_words_end ws (some_declr_end d (later (spec_words_end ws2 (some_declr_end d2 (later h)))))))
+    expr_end (choose keyword opening e separator e2 separator2 e3 closing) h =
+        later (later (expr_end e (later (expr_end e2 (later (expr_end e3 (later h)))))))
     expr_end (generic keyword opening e xs closing) h = later (later (expr_end e (assocs_end xs (later h))))
 
     assocs_end : (x : Assocs) {o k : List Lexeme} → EndsWith o k → EndsWith o (assocs_text all x k)
@@ -191,7 +201,8 @@ module _ (all : List Lexeme) where
     spec_word_end (typedef_name name) h = later h
     spec_word_end (attribute attr) h = attr_end attr h
     spec_word_end (typeof_value keyword opening e closing) h = later (later (expr_end e (later h)))
-    spec_word_end (typeof_type word opening ws d closing) h = later (later (spec_words_end ws (some_declr_end d (later h))))
+    spec_word_end (typeof_type word opening ws d closing) h =
+        later (later (spec_words_end ws (some_declr_end d (later h))))
     spec_word_end (align attr) h = later (group_end attr.group h)
     spec_word_end (auto_word token) h = later h
 
@@ -215,7 +226,8 @@ module _ (all : List Lexeme) where
     other_mem_declrs_end : (x : MemDeclrs) {o k : List Lexeme} → EndsWith o k
         → EndsWith o (other_mem_declrs_text all x k)
     other_mem_declrs_end no_mem_declrs h = h
-    other_mem_declrs_end (more_mem_declrs attrs d ds) h = later (attrs_end attrs (mem_declr_end d (other_mem_declrs_end ds h)))
+    other_mem_declrs_end (more_mem_declrs attrs d ds) h =
+        later (attrs_end attrs (mem_declr_end d (other_mem_declrs_end ds h)))
 
     mem_declr_end : (x : MemDeclr) {o k : List Lexeme} → EndsWith o k → EndsWith o (mem_declr_text all x k)
     mem_declr_end (named d width attrs) h = declr_end d (some_value_end Colon width (attrs_end attrs h))
@@ -232,27 +244,33 @@ module _ (all : List Lexeme) where
     some_enum_body_end : (x : SomeEnumBody) {o k : List Lexeme} → EndsWith o k
         → EndsWith o (some_enum_body_text all x k)
     some_enum_body_end no_enum_body h = h
-    some_enum_body_end (some_enum_body opening es last closing) h = later (enumerators_end es (some_sign_end Comma last (later h)))
+    some_enum_body_end (some_enum_body opening es last closing) h =
+        later (enumerators_end es (some_sign_end Comma last (later h)))
 
     enumerators_end : (x : Enumerators) {o k : List Lexeme} → EndsWith o k → EndsWith o (enumerators_text all x k)
     enumerators_end no_enumerators h = h
-    enumerators_end (more_enumerators name attrs value es) h = later (attrs_end attrs (some_value_end Equal value (other_enumerators_end es h)))
+    enumerators_end (more_enumerators name attrs value es) h =
+        later (attrs_end attrs (some_value_end Equal value (other_enumerators_end es h)))
 
     other_enumerators_end : (x : Enumerators) {o k : List Lexeme} → EndsWith o k
         → EndsWith o (other_enumerators_text all x k)
     other_enumerators_end no_enumerators h = h
-    other_enumerators_end (more_enumerators name attrs value es) h = later (later (attrs_end attrs (some_value_end Equal value (other_enumerators_end es h))))
+    other_enumerators_end (more_enumerators name attrs value es) h =
+        later (later (attrs_end attrs (some_value_end Equal value (other_enumerators_end es h))))
 
     declr_end : (x : Declr) {o k : List Lexeme} → EndsWith o k → EndsWith o (declr_text all x k)
     declr_end (pointer star words d) h = later (pointer_words_end words (declr_end d h))
     declr_end (declr_name token name) h = later h
     declr_end (declr_paren opening attrs d closing) h = later (attrs_end attrs (declr_end d (later h)))
-    declr_end (array d opening words size closing) h = declr_end d (later (array_words_end words (some_size_end size (later h))))
+    declr_end (array d opening words size closing) h =
+        declr_end d (later (array_words_end words (some_size_end size (later h))))
     declr_end (params d opening ps dots closing) h = declr_end d (later (params_end ps (dots_end dots (later h))))
     declr_end (abs_pointer star words d) h = later (pointer_words_end words (some_declr_end d h))
     declr_end (abs_paren opening attrs d closing) h = later (attrs_end attrs (declr_end d (later h)))
-    declr_end (abs_array d opening words size closing) h = some_declr_end d (later (array_words_end words (some_size_end size (later h))))
-    declr_end (abs_params d opening ps dots closing) h = some_declr_end d (later (params_end ps (dots_end dots (later h))))
+    declr_end (abs_array d opening words size closing) h =
+        some_declr_end d (later (array_words_end words (some_size_end size (later h))))
+    declr_end (abs_params d opening ps dots closing) h =
+        some_declr_end d (later (params_end ps (dots_end dots (later h))))
     declr_end (identifiers d opening names closing) h = declr_end d (later (names_end names (later h)))
     declr_end (base_name token) h = later h
 
@@ -270,27 +288,32 @@ module _ (all : List Lexeme) where
 
     params_end : (x : Params) {o k : List Lexeme} → EndsWith o k → EndsWith o (params_text all x k)
     params_end no_params h = h
-    params_end (more_params ws d attrs ps) h = spec_words_end ws (some_declr_end d (attrs_end attrs (other_params_end ps h)))
+    params_end (more_params ws d attrs ps) h =
+        spec_words_end ws (some_declr_end d (attrs_end attrs (other_params_end ps h)))
 
     other_params_end : (x : Params) {o k : List Lexeme} → EndsWith o k → EndsWith o (other_params_text all x k)
     other_params_end no_params h = h
-    other_params_end (more_params ws d attrs ps) h = later (spec_words_end ws (some_declr_end d (attrs_end attrs (other_params_end ps h))))
+    other_params_end (more_params ws d attrs ps) h =
+        later (spec_words_end ws (some_declr_end d (attrs_end attrs (other_params_end ps h))))
 
     init_end : (x : Init) {o k : List Lexeme} → EndsWith o k → EndsWith o (init_text all x k)
     init_end (init_value e) h = expr_end e h
     init_end (init_braced list) h = init_list_end list h
 
     init_list_end : (x : InitList) {o k : List Lexeme} → EndsWith o k → EndsWith o (init_list_text all x k)
-    init_list_end (init_list opening items last closing) h = later (init_items_end items (some_sign_end Comma last (later h)))
+    init_list_end (init_list opening items last closing) h =
+        later (init_items_end items (some_sign_end Comma last (later h)))
 
     init_items_end : (x : InitItems) {o k : List Lexeme} → EndsWith o k → EndsWith o (init_items_text all x k)
     init_items_end no_init_items h = h
-    init_items_end (more_init_items ds equal init items) h = desigs_end ds (some_sign_end Equal equal (init_end init (other_init_items_end items h)))
+    init_items_end (more_init_items ds equal init items) h =
+        desigs_end ds (some_sign_end Equal equal (init_end init (other_init_items_end items h)))
 
     other_init_items_end : (x : InitItems) {o k : List Lexeme} → EndsWith o k
         → EndsWith o (other_init_items_text all x k)
     other_init_items_end no_init_items h = h
-    other_init_items_end (more_init_items ds equal init items) h = later (desigs_end ds (some_sign_end Equal equal (init_end init (other_init_items_end items h))))
+    other_init_items_end (more_init_items ds equal init items) h =
+        later (desigs_end ds (some_sign_end Equal equal (init_end init (other_init_items_end items h))))
 
     desigs_end : (x : Desigs) {o k : List Lexeme} → EndsWith o k → EndsWith o (desigs_text all x k)
     desigs_end no_desigs h = h
@@ -308,15 +331,20 @@ module _ (all : List Lexeme) where
 
     init_declrs_end : (x : InitDeclrs) {o k : List Lexeme} → EndsWith o k → EndsWith o (init_declrs_text all x k)
     init_declrs_end no_init_declrs h = h
-    init_declrs_end (more_init_declrs attrs d asm_label attrs2 init ds) h = attrs_end attrs (declr_end d (label_end asm_label (attrs_end attrs2 (some_init_end init (other_init_declrs_end ds h)))))
+    init_declrs_end (more_init_declrs attrs d asm_label attrs2 init ds) h =
+        attrs_end attrs
+        (declr_end d (label_end asm_label (attrs_end attrs2 (some_init_end init (other_init_declrs_end ds h)))))
 
     other_init_declrs_end : (x : InitDeclrs) {o k : List Lexeme} → EndsWith o k
         → EndsWith o (other_init_declrs_text all x k)
     other_init_declrs_end no_init_declrs h = h
-    other_init_declrs_end (more_init_declrs attrs d asm_label attrs2 init ds) h = later (attrs_end attrs (declr_end d (label_end asm_label (attrs_end attrs2 (some_init_end init (other_init_declrs_end ds h))))))
+    other_init_declrs_end (more_init_declrs attrs d asm_label attrs2 init ds) h =
+        later (attrs_end attrs
+        (declr_end d (label_end asm_label (attrs_end attrs2 (some_init_end init (other_init_declrs_end ds h))))))
 
     declaration_end : (x : Declaration) {o k : List Lexeme} → EndsWith o k → EndsWith o (declaration_text all x k)
-    declaration_end (declaration exts ws ds semi) h = extensions_end exts (spec_words_end ws (init_declrs_end ds (later h)))
+    declaration_end (declaration exts ws ds semi) h =
+        extensions_end exts (spec_words_end ws (init_declrs_end ds (later h)))
 
     decl_end : (x : Decl) {o k : List Lexeme} → EndsWith o k → EndsWith o (decl_text all x k)
     decl_end (decl_declaration d) h = declaration_end d h
@@ -338,11 +366,14 @@ module _ (all : List Lexeme) where
     stmt_end (label name colon attrs s) h = later (later (attrs_end attrs (stmt_end s h)))
     stmt_end (case_stmt keyword e colon s) h = later (expr_end e (later (stmt_end s h)))
     stmt_end (default_stmt keyword colon s) h = later (later (stmt_end s h))
-    stmt_end (if_stmt keyword opening e closing s other) h = later (later (expr_end e (later (stmt_end s (some_else_end other h)))))
+    stmt_end (if_stmt keyword opening e closing s other) h =
+        later (later (expr_end e (later (stmt_end s (some_else_end other h)))))
     stmt_end (switch_stmt keyword opening e closing s) h = later (later (expr_end e (later (stmt_end s h))))
     stmt_end (while_stmt keyword opening e closing s) h = later (later (expr_end e (later (stmt_end s h))))
-    stmt_end (do_stmt keyword s keyword2 opening e closing semi) h = later (stmt_end s (later (later (expr_end e (later (later h))))))
-    stmt_end (for_stmt keyword opening start e semi e2 closing s) h = later (later (for_start_end start (some_expr_end e (later (some_expr_end e2 (later (stmt_end s h)))))))
+    stmt_end (do_stmt keyword s keyword2 opening e closing semi) h =
+        later (stmt_end s (later (later (expr_end e (later (later h))))))
+    stmt_end (for_stmt keyword opening start e semi e2 closing s) h =
+        later (later (for_start_end start (some_expr_end e (later (some_expr_end e2 (later (stmt_end s h)))))))
     stmt_end (goto_stmt keyword name semi) h = later (later (later h))
     stmt_end (continue_stmt keyword semi) h = later (later h)
     stmt_end (break_stmt keyword semi) h = later (later h)
@@ -369,38 +400,54 @@ module _ (all : List Lexeme) where
 
   list_end_is : (list : InitList) (k : List Lexeme)
       → (t : Lexeme) × (t.at ≡ list_end list) × EndsWith (t ∷ k) (init_list_text all list k)
-  list_end_is (init_list opening items last closing) k = closing_is k CloseBrace closing (later (init_items_end items (some_sign_end Comma last whole)))
+  list_end_is (init_list opening items last closing) k =
+      closing_is k CloseBrace closing (later (init_items_end items (some_sign_end Comma last whole)))
 
   last_is : (e : Expr) (k : List Lexeme) → IsExpr all e
       → (t : Lexeme) × (t.at ≡ last_token e) × EndsWith (t ∷ k) (expr_text all e k)
   last_is (operation e op token e2) k h = let l = last_is e2 k h.1 in (l.0, l.1, expr_end e (operator_end op token l.2))
-  last_is (cast opening ws d closing e) k h = let l = last_is e k h.3 in (l.0, l.1, later (spec_words_end ws (some_declr_end d (later l.2))))
+  last_is (cast opening ws d closing e) k h =
+      let l = last_is e k h.3 in
+      (l.0, l.1, later (spec_words_end ws (some_declr_end d (later l.2))))
   last_is (prefix token p e) k h = let l = last_is e k h.0 in (l.0, l.1, later l.2)
   last_is (sizeof_value word e) k h = let l = last_is e k h.0 in (l.0, l.1, later l.2)
-  last_is (sizeof_type word opening ws d closing) k h = closing_is k CloseParen closing (later (later (spec_words_end ws (some_declr_end d whole))))
+  last_is (sizeof_type word opening ws d closing) k h =
+      closing_is k CloseParen closing (later (later (spec_words_end ws (some_declr_end d whole))))
   last_is (extension keyword e) k h = let l = last_is e k h.0 in (l.0, l.1, later l.2)
   last_is (index e opening e2 closing) k h = closing_is k CloseBracket closing (expr_end e (later (expr_end e2 whole)))
   last_is (call e opening es closing) k h = closing_is k CloseParen closing (expr_end e (later (exprs_end es whole)))
   last_is (dot e token name) k h = name_is k name (expr_end e (later whole))
   last_is (arrow e token name) k h = name_is k name (expr_end e (later whole))
   last_is (post e token p) k h = closing_is k p token (expr_end e whole)
-  last_is (compound opening ws d closing list) k h = let l = list_end_is list k in (l.0, l.1, later (spec_words_end ws (some_declr_end d (later l.2))))
+  last_is (compound opening ws d closing list) k h =
+      let l = list_end_is list k in
+      (l.0, l.1, later (spec_words_end ws (some_declr_end d (later l.2))))
   last_is (name_use token name) k h = (record { kind = kinds.Name name; at = token }, refl, whole)
   last_is (number_use token) k h = (record { kind = kinds.Number; at = token }, refl, whole)
   last_is (char_use token) k h = (record { kind = kinds.Char; at = token }, refl, whole)
   last_is (text_use []) k h = absurd (h refl)
   last_is (text_use (token ∷ tokens)) k h = last_text_is token tokens k
   last_is (paren opening e closing) k h = closing_is k CloseParen closing (later (expr_end e whole))
-  last_is (statement_expr opening opening2 items closing closing2) k h = closing_is k CloseParen closing2 (later (later (block_items_end items (later whole))))
-  last_is (va_arg keyword opening e separator ws d closing) k h = closing_is k CloseParen closing (later (later (expr_end e (later (spec_words_end ws (some_declr_end d whole))))))
-  last_is (va_start keyword opening e separator e2 closing) k h = closing_is k CloseParen closing (later (later (expr_end e (later (expr_end e2 whole)))))
-  last_is (va_copy keyword opening e separator e2 closing) k h = closing_is k CloseParen closing (later (later (expr_end e (later (expr_end e2 whole)))))
-  last_is (offset keyword opening ws d separator name steps closing) k h = closing_is k CloseParen closing (later (later (spec_words_end ws (some_declr_end d (later (later (desigs_end steps whole)))))))
+  last_is (statement_expr opening opening2 items closing closing2) k h =
+      closing_is k CloseParen closing2 (later (later (block_items_end items (later whole))))
+  last_is (va_arg keyword opening e separator ws d closing) k h =
+      closing_is k CloseParen closing (later (later (expr_end e (later (spec_words_end ws (some_declr_end d whole))))))
+  last_is (va_start keyword opening e separator e2 closing) k h =
+      closing_is k CloseParen closing (later (later (expr_end e (later (expr_end e2 whole)))))
+  last_is (va_copy keyword opening e separator e2 closing) k h =
+      closing_is k CloseParen closing (later (later (expr_end e (later (expr_end e2 whole)))))
+  last_is (offset keyword opening ws d separator name steps closing) k h =
+      closing_is k CloseParen closing
+      (later (later (spec_words_end ws (some_declr_end d (later (later (desigs_end steps whole)))))))
   last_is (complex_part keyword e) k h = let l = last_is e k h.0 in (l.0, l.1, later l.2)
   last_is (label_use token name) k h = name_is k name (later whole)
-  last_is (compat keyword opening ws d separator ws2 d2 closing) k h = closing_is k CloseParen closing (later (later (spec_words_end ws (some_declr_end d (later (spec_words_end ws2 (some_declr_end d2 whole)))))))
-  last_is (choose keyword opening e separator e2 separator2 e3 closing) k h = closing_is k CloseParen closing (later (later (expr_end e (later (expr_end e2 (later (expr_end e3 whole)))))))
-  last_is (generic keyword opening e xs closing) k h = closing_is k CloseParen closing (later (later (expr_end e (assocs_end xs whole))))
+  last_is (compat keyword opening ws d separator ws2 d2 closing) k h =
+      closing_is k CloseParen closing
+      (later (later (spec_words_end ws (some_declr_end d (later (spec_words_end ws2 (some_declr_end d2 whole)))))))
+  last_is (choose keyword opening e separator e2 separator2 e3 closing) k h =
+      closing_is k CloseParen closing (later (later (expr_end e (later (expr_end e2 (later (expr_end e3 whole)))))))
+  last_is (generic keyword opening e xs closing) k h =
+      closing_is k CloseParen closing (later (later (expr_end e (assocs_end xs whole))))
 
   pub last_ends : (e : Expr) (k : List Lexeme) → IsExpr all e → EndsAt (expr_text all e k) (last_token e) k
   last_ends e k h =

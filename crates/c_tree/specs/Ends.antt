@@ -101,7 +101,9 @@ number_of_first (t ∷ k) = Some t.at
 
 -- the tokens of a well formed expression begin with its first
 abbrev pub FirstBegins : Type 0
-FirstBegins = (all : List Lexeme) (e : Expr) (k : List Lexeme) → IsExpr all e → number_of_first (expr_text all e k) ≡ Some (first_token e)
+FirstBegins =
+    (all : List Lexeme) (e : Expr) (k : List Lexeme) → IsExpr all e
+    → number_of_first (expr_text all e k) ≡ Some (first_token e)
 
 -- tokens that are some, then one of this number, and then others
 pub record EndsAt (tokens : List Lexeme) (number : ℕ) (k : List Lexeme) : Type 0 where

@@ -35,5 +35,6 @@ pub data IsBalanced : List Lexeme → Type 0 where
 -- a group of the unit, from a parenthesis to its own
 pub record IsGroup (all : List Lexeme) (g : Group) : Type 0 where
   pub inside : List Lexeme
-  pub tokens : tokens_between all g.first g.last ≡ record { kind = kinds.Punct OpenParen; at = g.first } ∷ (inside ++ record { kind = kinds.Punct CloseParen; at = g.last } ∷ [])
+  pub tokens : tokens_between all g.first g.last ≡ record { kind = kinds.Punct OpenParen; at = g.first }
+      ∷ (inside ++ record { kind = kinds.Punct CloseParen; at = g.last } ∷ [])
   pub balanced : IsBalanced inside

@@ -36,21 +36,26 @@ abbrev mutual
   expr_height (dot e token name) = expr_height e + 1
   expr_height (arrow e token name) = expr_height e + 1
   expr_height (post e token p) = expr_height e + 1
-  expr_height (compound opening ws d closing list) = max (max (specs_height ws) (some_declr_height d) + 1) (init_list_height list) + 1
+  expr_height (compound opening ws d closing list) =
+      max (max (specs_height ws) (some_declr_height d) + 1) (init_list_height list) + 1
   expr_height (name_use token name) = 1
   expr_height (number_use token) = 1
   expr_height (char_use token) = 1
   expr_height (text_use texts) = 1
   expr_height (paren opening e closing) = expr_height e + 1
   expr_height (statement_expr opening opening2 items closing closing2) = block_height items + 1
-  expr_height (va_arg keyword opening e separator ws d closing) = max (expr_height e) (max (specs_height ws) (some_declr_height d) + 1) + 1
+  expr_height (va_arg keyword opening e separator ws d closing) =
+      max (expr_height e) (max (specs_height ws) (some_declr_height d) + 1) + 1
   expr_height (va_start keyword opening e separator e2 closing) = max (expr_height e) (expr_height e2) + 1
   expr_height (va_copy keyword opening e separator e2 closing) = max (expr_height e) (expr_height e2) + 1
-  expr_height (offset keyword opening ws d separator name steps closing) = max (max (specs_height ws) (some_declr_height d) + 1) (steps_height steps) + 1
+  expr_height (offset keyword opening ws d separator name steps closing) =
+      max (max (specs_height ws) (some_declr_height d) + 1) (steps_height steps) + 1
   expr_height (complex_part keyword e) = expr_height e + 1
   expr_height (label_use token name) = 1
-  expr_height (compat keyword opening ws d separator ws2 d2 closing) = max (max (specs_height ws) (some_declr_height d) + 1) (max (specs_height ws2) (some_declr_height d2) + 1) + 1
-  expr_height (choose keyword opening e separator e2 separator2 e3 closing) = max (expr_height e) (max (expr_height e2) (expr_height e3)) + 1
+  expr_height (compat keyword opening ws d separator ws2 d2 closing) =
+      max (max (specs_height ws) (some_declr_height d) + 1) (max (specs_height ws2) (some_declr_height d2) + 1) + 1
+  expr_height (choose keyword opening e separator e2 separator2 e3 closing) =
+      max (expr_height e) (max (expr_height e2) (expr_height e3)) + 1
   expr_height (generic keyword opening e xs closing) = max (expr_height e) (assocs_height xs) + 1
 
   -- of the associations of `_Generic`, the highest
@@ -122,7 +127,8 @@ abbrev mutual
   -- of the declarators of a member's declaration, with the attributes before them
   pub mem_declrs_height : MemDeclrs → ℕ
   mem_declrs_height no_mem_declrs = 0
-  mem_declrs_height (more_mem_declrs attrs d ds) = max (attrs_height attrs) (max (mem_declr_height d) (mem_declrs_height ds))
+  mem_declrs_height (more_mem_declrs attrs d ds) =
+      max (attrs_height attrs) (max (mem_declr_height d) (mem_declrs_height ds))
 
   -- a member's declarator is a node above its declarator, width and attributes
   pub mem_declr_height : MemDeclr → ℕ
@@ -146,7 +152,8 @@ abbrev mutual
   -- an enumerator is a node above its attributes and value; of several, the highest
   pub enumerators_height : Enumerators → ℕ
   enumerators_height no_enumerators = 0
-  enumerators_height (more_enumerators name attrs value es) = max (max (attrs_height attrs) (some_value_height value) + 1) (enumerators_height es)
+  enumerators_height (more_enumerators name attrs value es) =
+      max (max (attrs_height attrs) (some_value_height value) + 1) (enumerators_height es)
 
   -- a declarator is a node above its parts; a name alone is one level
   pub declr_height : Declr → ℕ
@@ -180,7 +187,8 @@ abbrev mutual
   -- a parameter is a node above its specifiers, declarator and attributes; of several, the highest
   pub params_height : Params → ℕ
   params_height no_params = 0
-  params_height (more_params ws d attrs ps) = max (max (specs_height ws) (max (some_declr_height d) (attrs_height attrs)) + 1) (params_height ps)
+  params_height (more_params ws d attrs ps) =
+      max (max (specs_height ws) (max (some_declr_height d) (attrs_height attrs)) + 1) (params_height ps)
 
   -- an initialiser is as high as its expression or its list
   pub init_height : Init → ℕ
@@ -194,7 +202,8 @@ abbrev mutual
   -- an item is a node above its designators and initialiser; of several, the highest
   pub init_items_height : InitItems → ℕ
   init_items_height no_init_items = 0
-  init_items_height (more_init_items ds equal init items) = max (max (desigs_height ds) (init_height init) + 1) (init_items_height items)
+  init_items_height (more_init_items ds equal init items) =
+      max (max (desigs_height ds) (init_height init) + 1) (init_items_height items)
 
   -- of the designators of an item, the highest
   pub desigs_height : Desigs → ℕ
@@ -228,7 +237,9 @@ abbrev mutual
   -- an init-declarator is a node above its declarator, label, attributes and initialiser; of several, the highest
   pub init_declrs_height : InitDeclrs → ℕ
   init_declrs_height no_init_declrs = 0
-  init_declrs_height (more_init_declrs attrs d asm_label attrs2 init ds) = max (max (attrs_height attrs) (max (declr_height d) (max (label_height asm_label) (max (attrs_height attrs2) (some_init_height init)))) + 1) (init_declrs_height ds)
+  init_declrs_height (more_init_declrs attrs d asm_label attrs2 init ds) =
+      max (max (attrs_height attrs) (max (declr_height d)
+      (max (label_height asm_label) (max (attrs_height attrs2) (some_init_height init)))) + 1) (init_declrs_height ds)
 
   -- a declaration is a node above its specifiers and declarators
   pub declaration_height : Declaration → ℕ
@@ -258,11 +269,13 @@ abbrev mutual
   stmt_height (label name colon attrs s) = max (attrs_height attrs) (stmt_height s) + 1
   stmt_height (case_stmt keyword e colon s) = max (expr_height e) (stmt_height s) + 1
   stmt_height (default_stmt keyword colon s) = stmt_height s + 1
-  stmt_height (if_stmt keyword opening e closing s other) = max (expr_height e) (max (stmt_height s) (some_else_height other)) + 1
+  stmt_height (if_stmt keyword opening e closing s other) =
+      max (expr_height e) (max (stmt_height s) (some_else_height other)) + 1
   stmt_height (switch_stmt keyword opening e closing s) = max (expr_height e) (stmt_height s) + 1
   stmt_height (while_stmt keyword opening e closing s) = max (expr_height e) (stmt_height s) + 1
   stmt_height (do_stmt keyword s keyword2 opening e closing semi) = max (stmt_height s) (expr_height e) + 1
-  stmt_height (for_stmt keyword opening start e semi e2 closing s) = max (for_start_height start) (max (some_expr_height e) (max (some_expr_height e2) (stmt_height s))) + 1
+  stmt_height (for_stmt keyword opening start e semi e2 closing s) =
+      max (for_start_height start) (max (some_expr_height e) (max (some_expr_height e2) (stmt_height s))) + 1
   stmt_height (goto_stmt keyword name semi) = 1
   stmt_height (continue_stmt keyword semi) = 1
   stmt_height (break_stmt keyword semi) = 1

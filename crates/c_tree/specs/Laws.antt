@@ -6,4 +6,5 @@ use Rattle.c_tree.specs.Levels.{IsOperator, operator_level, left_level, right_le
 -- no operand of an operator holds together less tightly than the operator with its operands, and one holds tighter
 abbrev pub OperandsHoldTighter : Type 0
 OperandsHoldTighter = (op : Operator) → IsOperator op →
-    (operator_level op ≤ left_level op) × (operator_level op ≤ right_level op) × ((operator_level op < left_level op) ⊎ (operator_level op < right_level op))
+    (operator_level op ≤ left_level op) × (operator_level op ≤ right_level op)
+    × ((operator_level op < left_level op) ⊎ (operator_level op < right_level op))

@@ -80,7 +80,8 @@ some_size_from (Some size) = some_size (array_size_of size)
 -- the parameters of a function declarator
 abbrev pub params_from : List rust_param.Param → Params
 params_from [] = no_params
-params_from (p ∷ ps) = more_params (spec_words_from p.specs.words.items) (some_declr_from p.declr) p.attrs.items (params_from ps)
+params_from (p ∷ ps) =
+    more_params (spec_words_from p.specs.words.items) (some_declr_from p.declr) p.attrs.items (params_from ps)
 
 -- the designators of an initialiser, or the steps of an offset
 abbrev pub desigs_from : List rust_desig.Desig → Desigs
@@ -90,7 +91,8 @@ desigs_from (d ∷ ds) = more_desigs (desig_of d) (desigs_from ds)
 -- the items of a braced list of initialisers
 abbrev pub init_items_from : List rust_init_item.InitItem → InitItems
 init_items_from [] = no_init_items
-init_items_from (item ∷ items) = more_init_items (desigs_from item.desigs.items) item.equal (init_of item.init) (init_items_from items)
+init_items_from (item ∷ items) =
+    more_init_items (desigs_from item.desigs.items) item.equal (init_of item.init) (init_items_from items)
 
 -- the initialiser of a declarator, with its `=`
 abbrev pub some_init_from : Option (Marked rust_init.Init) → SomeInit
@@ -100,7 +102,9 @@ some_init_from (Some init) = some_init init.token (init_of init.part)
 -- the declarators of a declaration, with the attributes before each
 abbrev pub init_declrs_from : List (Listed rust_init_declr.InitDeclr) → InitDeclrs
 init_declrs_from [] = no_init_declrs
-init_declrs_from (d ∷ ds) = more_init_declrs d.attrs.items (declr_of d.item.declr.value) d.item.label d.item.attrs.items (some_init_from d.item.init) (init_declrs_from ds)
+init_declrs_from (d ∷ ds) =
+    more_init_declrs d.attrs.items (declr_of d.item.declr.value) d.item.label d.item.attrs.items
+    (some_init_from d.item.init) (init_declrs_from ds)
 
 -- the `else` of an `if`, where there is one
 abbrev pub some_else_from : Option (Marked (Box rust_stmt.Stmt Global)) → SomeElse

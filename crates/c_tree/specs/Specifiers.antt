@@ -45,7 +45,8 @@ with_any ws = AnyComplex ∷ ws
 abbrev pub integers : List (List Keyword)
 integers =
     (Signed ∷ []) ∷ (Unsigned ∷ []) ∷ [] ++ with_signs (Char ∷ []) ++ with_signs (Int ∷ [])
-    ++ with_signs (Short ∷ []) ++ with_signs (Short ∷ Int ∷ []) ++ with_signs (Long ∷ []) ++ with_signs (Long ∷ Int ∷ [])
+    ++ with_signs (Short ∷ []) ++ with_signs (Short ∷ Int ∷ []) ++ with_signs (Long ∷ [])
+    ++ with_signs (Long ∷ Int ∷ [])
     ++ with_signs (Long ∷ Long ∷ []) ++ with_signs (Long ∷ Long ∷ Int ∷ [])
 
 -- the sets of words with `_Complex` that wider C takes
@@ -65,7 +66,9 @@ basic_types =
 
 -- one type: a basic one, or one of those that are types by themselves
 abbrev pub IsOneType : SpecWords → Type 0
-IsOneType ws = ((type_count ws ≡ 0) × Any (IsPermutation (type_words ws)) basic_types) ⊎ ((type_count ws ≡ 1) × (type_words ws ≡ []))
+IsOneType ws =
+    ((type_count ws ≡ 0) × Any (IsPermutation (type_words ws)) basic_types)
+    ⊎ ((type_count ws ≡ 1) × (type_words ws ≡ []))
 
 -- at most one storage word; `_Thread_local` may join `static` or `extern`
 abbrev pub storages : List (List Keyword)

@@ -151,32 +151,56 @@ module _ (all : List Lexeme) where
     -- an expression (6.5)
     pub expr_text : Expr → List Lexeme → List Lexeme
     expr_text (operation e op token e2) k = expr_text e (operator_text op token (expr_text e2 k))
-    expr_text (cast opening ws d closing e) k = sign_text OpenParen opening (spec_words_text ws (some_declr_text d (sign_text CloseParen closing (expr_text e k))))
+    expr_text (cast opening ws d closing e) k =
+        sign_text OpenParen opening
+        (spec_words_text ws (some_declr_text d (sign_text CloseParen closing (expr_text e k))))
     expr_text (prefix token p e) k = sign_text p token (expr_text e k)
     expr_text (sizeof_value word e) k = word_text word (expr_text e k)
-    expr_text (sizeof_type word opening ws d closing) k = word_text word (sign_text OpenParen opening (spec_words_text ws (some_declr_text d (sign_text CloseParen closing k))))
+    expr_text (sizeof_type word opening ws d closing) k =
+        word_text word
+        (sign_text OpenParen opening (spec_words_text ws (some_declr_text d (sign_text CloseParen closing k))))
     expr_text (extension keyword e) k = keyword_text Extension keyword (expr_text e k)
-    expr_text (index e opening e2 closing) k = expr_text e (sign_text OpenBracket opening (expr_text e2 (sign_text CloseBracket closing k)))
-    expr_text (call e opening es closing) k = expr_text e (sign_text OpenParen opening (exprs_text es (sign_text CloseParen closing k)))
+    expr_text (index e opening e2 closing) k =
+        expr_text e (sign_text OpenBracket opening (expr_text e2 (sign_text CloseBracket closing k)))
+    expr_text (call e opening es closing) k =
+        expr_text e (sign_text OpenParen opening (exprs_text es (sign_text CloseParen closing k)))
     expr_text (dot e token name) k = expr_text e (sign_text Dot token (identifier_text name k))
     expr_text (arrow e token name) k = expr_text e (sign_text Arrow token (identifier_text name k))
     expr_text (post e token p) k = expr_text e (sign_text p token k)
-    expr_text (compound opening ws d closing list) k = sign_text OpenParen opening (spec_words_text ws (some_declr_text d (sign_text CloseParen closing (init_list_text list k))))
+    expr_text (compound opening ws d closing list) k =
+        sign_text OpenParen opening
+        (spec_words_text ws (some_declr_text d (sign_text CloseParen closing (init_list_text list k))))
     expr_text (name_use token name) k = name_text name token k
     expr_text (number_use token) k = plain_text kinds.Number token k
     expr_text (char_use token) k = plain_text kinds.Char token k
     expr_text (text_use texts) k = texts_text texts k
     expr_text (paren opening e closing) k = sign_text OpenParen opening (expr_text e (sign_text CloseParen closing k))
-    expr_text (statement_expr opening opening2 items closing closing2) k = sign_text OpenParen opening (sign_text OpenBrace opening2 (block_items_text items (sign_text CloseBrace closing (sign_text CloseParen closing2 k))))
-    expr_text (va_arg keyword opening e separator ws d closing) k = keyword_text VaArg keyword (sign_text OpenParen opening (expr_text e (sign_text Comma separator (spec_words_text ws (some_declr_text d (sign_text CloseParen closing k))))))
-    expr_text (va_start keyword opening e separator e2 closing) k = keyword_text VaStart keyword (sign_text OpenParen opening (expr_text e (sign_text Comma separator (expr_text e2 (sign_text CloseParen closing k)))))
-    expr_text (va_copy keyword opening e separator e2 closing) k = keyword_text VaCopy keyword (sign_text OpenParen opening (expr_text e (sign_text Comma separator (expr_text e2 (sign_text CloseParen closing k)))))
-    expr_text (offset keyword opening ws d separator name steps closing) k = keyword_text Offsetof keyword (sign_text OpenParen opening (spec_words_text ws (some_declr_text d (sign_text Comma separator (identifier_text name (desigs_text steps (sign_text CloseParen closing k)))))))
+    expr_text (statement_expr opening opening2 items closing closing2) k =
+        sign_text OpenParen opening (sign_text OpenBrace opening2
+        (block_items_text items (sign_text CloseBrace closing (sign_text CloseParen closing2 k))))
+    expr_text (va_arg keyword opening e separator ws d closing) k =
+        keyword_text VaArg keyword (sign_text OpenParen opening (expr_text e
+        (sign_text Comma separator (spec_words_text ws (some_declr_text d (sign_text CloseParen closing k))))))
+    expr_text (va_start keyword opening e separator e2 closing) k =
+        keyword_text VaStart keyword (sign_text OpenParen opening
+        (expr_text e (sign_text Comma separator (expr_text e2 (sign_text CloseParen closing k)))))
+    expr_text (va_copy keyword opening e separator e2 closing) k =
+        keyword_text VaCopy keyword (sign_text OpenParen opening
+        (expr_text e (sign_text Comma separator (expr_text e2 (sign_text CloseParen closing k)))))
+    expr_text (offset keyword opening ws d separator name steps closing) k =
+        keyword_text Offsetof keyword (sign_text OpenParen opening (spec_words_text ws (some_declr_text d
+        (sign_text Comma separator (identifier_text name (desigs_text steps (sign_text CloseParen closing k)))))))
     expr_text (complex_part keyword e) k = keyword_text Part keyword (expr_text e k)
     expr_text (label_use token name) k = sign_text AmpersandAmpersand token (identifier_text name k)
-    expr_text (compat keyword opening ws d separator ws2 d2 closing) k = keyword_text Compatible keyword (sign_text OpenParen opening (spec_words_text ws (some_declr_text d (sign_text Comma separator (spec_words_text ws2 (some_declr_text d2 (sign_text CloseParen closing k)))))))
-    expr_text (choose keyword opening e separator e2 separator2 e3 closing) k = keyword_text Choose keyword (sign_text OpenParen opening (expr_text e (sign_text Comma separator (expr_text e2 (sign_text Comma separator2 (expr_text e3 (sign_text CloseParen closing k)))))))
-    expr_text (generic keyword opening e xs closing) k = keyword_text Generic keyword (sign_text OpenParen opening (expr_text e (assocs_text xs (sign_text CloseParen closing k))))
+    expr_text (compat keyword opening ws d separator ws2 d2 closing) k =
+        keyword_text Compatible keyword (sign_text OpenParen opening (spec_words_text ws (some_declr_text d
+        (sign_text Comma separator (spec_words_text ws2 (some_declr_text d2 (sign_text CloseParen closing k)))))))
+    expr_text (choose keyword opening e separator e2 separator2 e3 closing) k =
+        keyword_text Choose keyword (sign_text OpenParen opening (expr_text e (sign_text Comma separator
+        (expr_text e2 (sign_text Comma separator2 (expr_text e3 (sign_text CloseParen closing k)))))))
+    expr_text (generic keyword opening e xs closing) k =
+        keyword_text Generic keyword
+        (sign_text OpenParen opening (expr_text e (assocs_text xs (sign_text CloseParen closing k))))
 
     -- the associations of `_Generic`, each after a comma
     pub assocs_text : Assocs → List Lexeme → List Lexeme
@@ -185,7 +209,8 @@ module _ (all : List Lexeme) where
 
     -- an association: a type name or `default`, a colon and an expression
     pub assoc_text : Assoc → List Lexeme → List Lexeme
-    assoc_text (typed_assoc ws d colon e) k = spec_words_text ws (some_declr_text d (sign_text Colon colon (expr_text e k)))
+    assoc_text (typed_assoc ws d colon e) k =
+        spec_words_text ws (some_declr_text d (sign_text Colon colon (expr_text e k)))
     assoc_text (default_assoc keyword colon e) k = keyword_text Default keyword (sign_text Colon colon (expr_text e k))
 
     -- an operator, with what stands in the middle of `?:`
@@ -223,19 +248,24 @@ module _ (all : List Lexeme) where
     spec_word_text (noreturn keyword) k = keyword_text Noreturn keyword k
     spec_word_text (qualifier qual) k = qual_text all qual k
     spec_word_text (basic word) k = word_text word k
-    spec_word_text (struct_type word attrs tag body) k = word_text word (attrs_text all attrs (tag_text tag (some_body_text body k)))
+    spec_word_text (struct_type word attrs tag body) k =
+        word_text word (attrs_text all attrs (tag_text tag (some_body_text body k)))
     spec_word_text (enum_type enum) k = enum_type_text enum k
     spec_word_text (typedef_name name) k = name_text name.name name.token k
     spec_word_text (attribute attr) k = attr_text all attr k
-    spec_word_text (typeof_value keyword opening e closing) k = keyword_text Typeof keyword (sign_text OpenParen opening (expr_text e (sign_text CloseParen closing k)))
-    spec_word_text (typeof_type word opening ws d closing) k = word_text word (sign_text OpenParen opening (spec_words_text ws (some_declr_text d (sign_text CloseParen closing k))))
+    spec_word_text (typeof_value keyword opening e closing) k =
+        keyword_text Typeof keyword (sign_text OpenParen opening (expr_text e (sign_text CloseParen closing k)))
+    spec_word_text (typeof_type word opening ws d closing) k =
+        word_text word
+        (sign_text OpenParen opening (spec_words_text ws (some_declr_text d (sign_text CloseParen closing k))))
     spec_word_text (align attr) k = keyword_text Alignas attr.keyword (group_text all attr.group k)
     spec_word_text (auto_word token) k = keyword_text AutoType token k
 
     -- the body of a struct or union, where there is one
     pub some_body_text : SomeBody → List Lexeme → List Lexeme
     some_body_text no_body k = k
-    some_body_text (some_body opening items closing) k = sign_text OpenBrace opening (struct_items_text items (sign_text CloseBrace closing k))
+    some_body_text (some_body opening items closing) k =
+        sign_text OpenBrace opening (struct_items_text items (sign_text CloseBrace closing k))
 
     -- the members of a struct or union
     pub struct_items_text : StructItems → List Lexeme → List Lexeme
@@ -244,19 +274,22 @@ module _ (all : List Lexeme) where
 
     -- a member's declaration (6.7.2.1), a semicolon alone, or a `_Static_assert`
     pub struct_item_text : StructItem → List Lexeme → List Lexeme
-    struct_item_text (member exts ws ds semi) k = extensions_text exts (spec_words_text ws (mem_declrs_text ds (sign_text Semicolon semi k)))
+    struct_item_text (member exts ws ds semi) k =
+        extensions_text exts (spec_words_text ws (mem_declrs_text ds (sign_text Semicolon semi k)))
     struct_item_text (member_semi semi) k = sign_text Semicolon semi.token k
     struct_item_text (member_assert it) k = assert_text all it k
 
     -- the declarators of a member's declaration
     pub mem_declrs_text : MemDeclrs → List Lexeme → List Lexeme
     mem_declrs_text no_mem_declrs k = k
-    mem_declrs_text (more_mem_declrs attrs d ds) k = attrs_text all attrs (mem_declr_text d (other_mem_declrs_text ds k))
+    mem_declrs_text (more_mem_declrs attrs d ds) k =
+        attrs_text all attrs (mem_declr_text d (other_mem_declrs_text ds k))
 
     -- further declarators of a member's declaration, each after a comma
     pub other_mem_declrs_text : MemDeclrs → List Lexeme → List Lexeme
     other_mem_declrs_text no_mem_declrs k = k
-    other_mem_declrs_text (more_mem_declrs attrs d ds) k = separated (attrs_text all attrs (mem_declr_text d (other_mem_declrs_text ds k)))
+    other_mem_declrs_text (more_mem_declrs attrs d ds) k =
+        separated (attrs_text all attrs (mem_declr_text d (other_mem_declrs_text ds k)))
 
     -- a member's declarator, or a colon and a width, with the attributes behind it
     pub mem_declr_text : MemDeclr → List Lexeme → List Lexeme
@@ -270,35 +303,49 @@ module _ (all : List Lexeme) where
 
     -- an enumeration type (6.7.2.2)
     pub enum_type_text : EnumType → List Lexeme → List Lexeme
-    enum_type_text (enum_of keyword attrs tag body) k = keyword_text Enum keyword (attrs_text all attrs (tag_text tag (some_enum_body_text body k)))
+    enum_type_text (enum_of keyword attrs tag body) k =
+        keyword_text Enum keyword (attrs_text all attrs (tag_text tag (some_enum_body_text body k)))
 
     -- the body of an enumeration, where there is one
     pub some_enum_body_text : SomeEnumBody → List Lexeme → List Lexeme
     some_enum_body_text no_enum_body k = k
-    some_enum_body_text (some_enum_body opening es last closing) k = sign_text OpenBrace opening (enumerators_text es (some_sign_text Comma last (sign_text CloseBrace closing k)))
+    some_enum_body_text (some_enum_body opening es last closing) k =
+        sign_text OpenBrace opening (enumerators_text es (some_sign_text Comma last (sign_text CloseBrace closing k)))
 
     -- the enumerators of an enumeration
     pub enumerators_text : Enumerators → List Lexeme → List Lexeme
     enumerators_text no_enumerators k = k
-    enumerators_text (more_enumerators name attrs value es) k = identifier_text name (attrs_text all attrs (some_value_text Equal value (other_enumerators_text es k)))
+    enumerators_text (more_enumerators name attrs value es) k =
+        identifier_text name (attrs_text all attrs (some_value_text Equal value (other_enumerators_text es k)))
 
     -- further enumerators, each after a comma
     pub other_enumerators_text : Enumerators → List Lexeme → List Lexeme
     other_enumerators_text no_enumerators k = k
-    other_enumerators_text (more_enumerators name attrs value es) k = separated (identifier_text name (attrs_text all attrs (some_value_text Equal value (other_enumerators_text es k))))
+    other_enumerators_text (more_enumerators name attrs value es) k = separated
+        (identifier_text name (attrs_text all attrs (some_value_text Equal value (other_enumerators_text es k))))
 
     -- a declarator, with a name (6.7.5) or without (6.7.6)
     pub declr_text : Declr → List Lexeme → List Lexeme
     declr_text (pointer star words d) k = sign_text Star star (pointer_words_text all words (declr_text d k))
     declr_text (declr_name token name) k = name_text name token k
-    declr_text (declr_paren opening attrs d closing) k = sign_text OpenParen opening (attrs_text all attrs (declr_text d (sign_text CloseParen closing k)))
-    declr_text (array d opening words size closing) k = declr_text d (sign_text OpenBracket opening (array_words_text all words (some_size_text size (sign_text CloseBracket closing k))))
-    declr_text (params d opening ps dots closing) k = declr_text d (sign_text OpenParen opening (params_text ps (dots_text all dots (sign_text CloseParen closing k))))
+    declr_text (declr_paren opening attrs d closing) k =
+        sign_text OpenParen opening (attrs_text all attrs (declr_text d (sign_text CloseParen closing k)))
+    declr_text (array d opening words size closing) k =
+        declr_text d (sign_text OpenBracket opening
+        (array_words_text all words (some_size_text size (sign_text CloseBracket closing k))))
+    declr_text (params d opening ps dots closing) k = declr_text d
+        (sign_text OpenParen opening (params_text ps (dots_text all dots (sign_text CloseParen closing k))))
     declr_text (abs_pointer star words d) k = sign_text Star star (pointer_words_text all words (some_declr_text d k))
-    declr_text (abs_paren opening attrs d closing) k = sign_text OpenParen opening (attrs_text all attrs (declr_text d (sign_text CloseParen closing k)))
-    declr_text (abs_array d opening words size closing) k = some_declr_text d (sign_text OpenBracket opening (array_words_text all words (some_size_text size (sign_text CloseBracket closing k))))
-    declr_text (abs_params d opening ps dots closing) k = some_declr_text d (sign_text OpenParen opening (params_text ps (dots_text all dots (sign_text CloseParen closing k))))
-    declr_text (identifiers d opening names closing) k = declr_text d (sign_text OpenParen opening (names_text names (sign_text CloseParen closing k)))
+    declr_text (abs_paren opening attrs d closing) k =
+        sign_text OpenParen opening (attrs_text all attrs (declr_text d (sign_text CloseParen closing k)))
+    declr_text (abs_array d opening words size closing) k =
+        some_declr_text d (sign_text OpenBracket opening
+        (array_words_text all words (some_size_text size (sign_text CloseBracket closing k))))
+    declr_text (abs_params d opening ps dots closing) k =
+        some_declr_text d
+        (sign_text OpenParen opening (params_text ps (dots_text all dots (sign_text CloseParen closing k))))
+    declr_text (identifiers d opening names closing) k =
+        declr_text d (sign_text OpenParen opening (names_text names (sign_text CloseParen closing k)))
     declr_text (base_name token) k = keyword_text BaseWord token k
 
     -- a declarator that may be absent
@@ -319,12 +366,14 @@ module _ (all : List Lexeme) where
     -- the parameters of a function declarator
     pub params_text : Params → List Lexeme → List Lexeme
     params_text no_params k = k
-    params_text (more_params ws d attrs ps) k = spec_words_text ws (some_declr_text d (attrs_text all attrs (other_params_text ps k)))
+    params_text (more_params ws d attrs ps) k =
+        spec_words_text ws (some_declr_text d (attrs_text all attrs (other_params_text ps k)))
 
     -- further parameters, each after a comma
     pub other_params_text : Params → List Lexeme → List Lexeme
     other_params_text no_params k = k
-    other_params_text (more_params ws d attrs ps) k = separated (spec_words_text ws (some_declr_text d (attrs_text all attrs (other_params_text ps k))))
+    other_params_text (more_params ws d attrs ps) k =
+        separated (spec_words_text ws (some_declr_text d (attrs_text all attrs (other_params_text ps k))))
 
     -- an initialiser (6.7.8)
     pub init_text : Init → List Lexeme → List Lexeme
@@ -333,17 +382,20 @@ module _ (all : List Lexeme) where
 
     -- a braced list of initialisers
     pub init_list_text : InitList → List Lexeme → List Lexeme
-    init_list_text (init_list opening items last closing) k = sign_text OpenBrace opening (init_items_text items (some_sign_text Comma last (sign_text CloseBrace closing k)))
+    init_list_text (init_list opening items last closing) k =
+        sign_text OpenBrace opening (init_items_text items (some_sign_text Comma last (sign_text CloseBrace closing k)))
 
     -- the items of a list of initialisers
     pub init_items_text : InitItems → List Lexeme → List Lexeme
     init_items_text no_init_items k = k
-    init_items_text (more_init_items ds equal init items) k = desigs_text ds (some_sign_text Equal equal (init_text init (other_init_items_text items k)))
+    init_items_text (more_init_items ds equal init items) k =
+        desigs_text ds (some_sign_text Equal equal (init_text init (other_init_items_text items k)))
 
     -- further items, each after a comma
     pub other_init_items_text : InitItems → List Lexeme → List Lexeme
     other_init_items_text no_init_items k = k
-    other_init_items_text (more_init_items ds equal init items) k = separated (desigs_text ds (some_sign_text Equal equal (init_text init (other_init_items_text items k))))
+    other_init_items_text (more_init_items ds equal init items) k =
+        separated (desigs_text ds (some_sign_text Equal equal (init_text init (other_init_items_text items k))))
 
     -- designators, or the steps of an offset
     pub desigs_text : Desigs → List Lexeme → List Lexeme
@@ -353,8 +405,11 @@ module _ (all : List Lexeme) where
     -- a designator: a member, an index, a range of indices, or the old form `m:`
     pub desig_text : Desig → List Lexeme → List Lexeme
     desig_text (member_desig token name) k = sign_text Dot token (identifier_text name k)
-    desig_text (index_desig opening e closing) k = sign_text OpenBracket opening (expr_text e (sign_text CloseBracket closing k))
-    desig_text (range_desig opening e dots e2 closing) k = sign_text OpenBracket opening (expr_text e (sign_text Ellipsis dots (expr_text e2 (sign_text CloseBracket closing k))))
+    desig_text (index_desig opening e closing) k =
+        sign_text OpenBracket opening (expr_text e (sign_text CloseBracket closing k))
+    desig_text (range_desig opening e dots e2 closing) k =
+        sign_text OpenBracket opening
+        (expr_text e (sign_text Ellipsis dots (expr_text e2 (sign_text CloseBracket closing k))))
     desig_text (old_desig name colon) k = identifier_text name (sign_text Colon colon k)
 
     -- the initialiser of a declarator, where there is one
@@ -365,16 +420,21 @@ module _ (all : List Lexeme) where
     -- the declarators of a declaration
     pub init_declrs_text : InitDeclrs → List Lexeme → List Lexeme
     init_declrs_text no_init_declrs k = k
-    init_declrs_text (more_init_declrs attrs d asm_label attrs2 init ds) k = attrs_text all attrs (declr_text d (label_text all asm_label (attrs_text all attrs2 (some_init_text init (other_init_declrs_text ds k)))))
+    init_declrs_text (more_init_declrs attrs d asm_label attrs2 init ds) k =
+        attrs_text all attrs (declr_text d
+        (label_text all asm_label (attrs_text all attrs2 (some_init_text init (other_init_declrs_text ds k)))))
 
     -- further declarators, each after a comma
     pub other_init_declrs_text : InitDeclrs → List Lexeme → List Lexeme
     other_init_declrs_text no_init_declrs k = k
-    other_init_declrs_text (more_init_declrs attrs d asm_label attrs2 init ds) k = separated (attrs_text all attrs (declr_text d (label_text all asm_label (attrs_text all attrs2 (some_init_text init (other_init_declrs_text ds k))))))
+    other_init_declrs_text (more_init_declrs attrs d asm_label attrs2 init ds) k =
+        separated (attrs_text all attrs (declr_text d
+        (label_text all asm_label (attrs_text all attrs2 (some_init_text init (other_init_declrs_text ds k))))))
 
     -- a declaration (6.7)
     pub declaration_text : Declaration → List Lexeme → List Lexeme
-    declaration_text (declaration exts ws ds semi) k = extensions_text exts (spec_words_text ws (init_declrs_text ds (sign_text Semicolon semi k)))
+    declaration_text (declaration exts ws ds semi) k =
+        extensions_text exts (spec_words_text ws (init_declrs_text ds (sign_text Semicolon semi k)))
 
     -- a declaration or a `_Static_assert`
     pub decl_text : Decl → List Lexeme → List Lexeme
@@ -390,28 +450,48 @@ module _ (all : List Lexeme) where
     pub block_item_text : BlockItem → List Lexeme → List Lexeme
     block_item_text (block_decl d) k = decl_text d k
     block_item_text (block_stmt s) k = stmt_text s k
-    block_item_text (block_labels keyword names semi) k = keyword_text LabelWord keyword (names_text names (sign_text Semicolon semi k))
+    block_item_text (block_labels keyword names semi) k =
+        keyword_text LabelWord keyword (names_text names (sign_text Semicolon semi k))
 
     -- a statement (6.8)
     pub stmt_text : Stmt → List Lexeme → List Lexeme
-    stmt_text (block opening items closing) k = sign_text OpenBrace opening (block_items_text items (sign_text CloseBrace closing k))
+    stmt_text (block opening items closing) k =
+        sign_text OpenBrace opening (block_items_text items (sign_text CloseBrace closing k))
     stmt_text (expr_stmt e semi) k = some_expr_text e (sign_text Semicolon semi k)
     stmt_text (attr_stmt attrs semi) k = attrs_text all attrs (sign_text Semicolon semi k)
-    stmt_text (label name colon attrs s) k = identifier_text name (sign_text Colon colon (attrs_text all attrs (stmt_text s k)))
-    stmt_text (case_stmt keyword e colon s) k = keyword_text Case keyword (expr_text e (sign_text Colon colon (stmt_text s k)))
+    stmt_text (label name colon attrs s) k =
+        identifier_text name (sign_text Colon colon (attrs_text all attrs (stmt_text s k)))
+    stmt_text (case_stmt keyword e colon s) k =
+        keyword_text Case keyword (expr_text e (sign_text Colon colon (stmt_text s k)))
     stmt_text (default_stmt keyword colon s) k = keyword_text Default keyword (sign_text Colon colon (stmt_text s k))
-    stmt_text (if_stmt keyword opening e closing s other) k = keyword_text If keyword (sign_text OpenParen opening (expr_text e (sign_text CloseParen closing (stmt_text s (some_else_text other k)))))
-    stmt_text (switch_stmt keyword opening e closing s) k = keyword_text Switch keyword (sign_text OpenParen opening (expr_text e (sign_text CloseParen closing (stmt_text s k))))
-    stmt_text (while_stmt keyword opening e closing s) k = keyword_text While keyword (sign_text OpenParen opening (expr_text e (sign_text CloseParen closing (stmt_text s k))))
-    stmt_text (do_stmt keyword s keyword2 opening e closing semi) k = keyword_text Do keyword (stmt_text s (keyword_text While keyword2 (sign_text OpenParen opening (expr_text e (sign_text CloseParen closing (sign_text Semicolon semi k))))))
-    stmt_text (for_stmt keyword opening start e semi e2 closing s) k = keyword_text For keyword (sign_text OpenParen opening (for_start_text start (some_expr_text e (sign_text Semicolon semi (some_expr_text e2 (sign_text CloseParen closing (stmt_text s k)))))))
-    stmt_text (goto_stmt keyword name semi) k = keyword_text Goto keyword (identifier_text name (sign_text Semicolon semi k))
+    stmt_text (if_stmt keyword opening e closing s other) k =
+        keyword_text If keyword (sign_text OpenParen opening
+        (expr_text e (sign_text CloseParen closing (stmt_text s (some_else_text other k)))))
+    stmt_text (switch_stmt keyword opening e closing s) k =
+        keyword_text Switch keyword
+        (sign_text OpenParen opening (expr_text e (sign_text CloseParen closing (stmt_text s k))))
+    stmt_text (while_stmt keyword opening e closing s) k =
+        keyword_text While keyword
+        (sign_text OpenParen opening (expr_text e (sign_text CloseParen closing (stmt_text s k))))
+    stmt_text (do_stmt keyword s keyword2 opening e closing semi) k =
+        keyword_text Do keyword (stmt_text s (keyword_text While keyword2
+        (sign_text OpenParen opening (expr_text e (sign_text CloseParen closing (sign_text Semicolon semi k))))))
+    stmt_text (for_stmt keyword opening start e semi e2 closing s) k =
+        keyword_text For keyword (sign_text OpenParen opening (for_start_text start (some_expr_text e
+        (sign_text Semicolon semi (some_expr_text e2 (sign_text CloseParen closing (stmt_text s k)))))))
+    stmt_text (goto_stmt keyword name semi) k =
+        keyword_text Goto keyword (identifier_text name (sign_text Semicolon semi k))
     stmt_text (continue_stmt keyword semi) k = keyword_text Continue keyword (sign_text Semicolon semi k)
     stmt_text (break_stmt keyword semi) k = keyword_text Break keyword (sign_text Semicolon semi k)
-    stmt_text (return_stmt keyword e semi) k = keyword_text Return keyword (some_expr_text e (sign_text Semicolon semi k))
-    stmt_text (asm_stmt keyword words group semi) k = keyword_text Asm keyword (words_text words (group_text all group (sign_text Semicolon semi k)))
-    stmt_text (case_range keyword e dots e2 colon s) k = keyword_text Case keyword (expr_text e (sign_text Ellipsis dots (expr_text e2 (sign_text Colon colon (stmt_text s k)))))
-    stmt_text (goto_value keyword star e semi) k = keyword_text Goto keyword (sign_text Star star (expr_text e (sign_text Semicolon semi k)))
+    stmt_text (return_stmt keyword e semi) k =
+        keyword_text Return keyword (some_expr_text e (sign_text Semicolon semi k))
+    stmt_text (asm_stmt keyword words group semi) k =
+        keyword_text Asm keyword (words_text words (group_text all group (sign_text Semicolon semi k)))
+    stmt_text (case_range keyword e dots e2 colon s) k =
+        keyword_text Case keyword
+        (expr_text e (sign_text Ellipsis dots (expr_text e2 (sign_text Colon colon (stmt_text s k)))))
+    stmt_text (goto_value keyword star e semi) k =
+        keyword_text Goto keyword (sign_text Star star (expr_text e (sign_text Semicolon semi k)))
 
     -- the `else` of an `if`, where there is one
     pub some_else_text : SomeElse → List Lexeme → List Lexeme

@@ -40,8 +40,12 @@ block_items_from (item ∷ items) = more_block_items (block_item_of item) (block
 
 -- the tree of an item of the program's unit
 abbrev pub item_of : rust_item.Item → Item
-item_of (rust_items.Function exts specs d attrs body) = function_item exts.items (spec_words_from specs.words.items) (declr_of d.value) attrs.items body.«open» (block_items_from body.items.items) body.close
-item_of (rust_items.OldFunction exts specs d attrs ds body) = old_function_item exts.items (spec_words_from specs.words.items) (declr_of d.value) attrs.items (map declaration_of ds.items) body.«open» (block_items_from body.items.items) body.close
+item_of (rust_items.Function exts specs d attrs body) =
+    function_item exts.items (spec_words_from specs.words.items) (declr_of d.value) attrs.items body.«open»
+    (block_items_from body.items.items) body.close
+item_of (rust_items.OldFunction exts specs d attrs ds body) =
+    old_function_item exts.items (spec_words_from specs.words.items) (declr_of d.value) attrs.items
+    (map declaration_of ds.items) body.«open» (block_items_from body.items.items) body.close
 item_of (rust_items.Decl d) = decl_item (decl_of d.value)
 item_of (rust_items.AsmDecl keyword group semi) = asm_item keyword group semi
 item_of (rust_items.Semi semi) = semi_item semi
@@ -62,10 +66,15 @@ declarations_height (d ∷ ds) = max (declaration_height d) (declarations_height
 
 -- the tokens of an item of a unit
 abbrev pub item_text : List Lexeme → Item → List Lexeme → List Lexeme
-item_text all (function_item exts ws d attrs opening items closing) k = extensions_text exts (spec_words_text all ws (declr_text all d (attrs_text all attrs (sign_text OpenBrace opening (block_items_text all items (sign_text CloseBrace closing k))))))
-item_text all (old_function_item exts ws d attrs ds opening items closing) k = extensions_text exts (spec_words_text all ws (declr_text all d (attrs_text all attrs (declarations_text all ds (sign_text OpenBrace opening (block_items_text all items (sign_text CloseBrace closing k)))))))
+item_text all (function_item exts ws d attrs opening items closing) k =
+    extensions_text exts (spec_words_text all ws (declr_text all d
+    (attrs_text all attrs (sign_text OpenBrace opening (block_items_text all items (sign_text CloseBrace closing k))))))
+item_text all (old_function_item exts ws d attrs ds opening items closing) k =
+    extensions_text exts (spec_words_text all ws (declr_text all d (attrs_text all attrs (declarations_text all ds
+    (sign_text OpenBrace opening (block_items_text all items (sign_text CloseBrace closing k)))))))
 item_text all (decl_item d) k = decl_text all d k
-item_text all (asm_item keyword group semi) k = keyword_text Asm keyword (group_text all group (sign_text Semicolon semi k))
+item_text all (asm_item keyword group semi) k =
+    keyword_text Asm keyword (group_text all group (sign_text Semicolon semi k))
 item_text all (semi_item semi) k = sign_text Semicolon semi.token k
 
 -- the tokens of items one behind another
@@ -80,8 +89,11 @@ pub record AreTokensOf (all : List Lexeme) (items : List Item) : Type 0 where
 
 -- the height of an item, in nodes
 abbrev pub item_height : Item → ℕ
-item_height (function_item exts ws d attrs opening items closing) = max (specs_height ws) (max (declr_height d) (max (attrs_height attrs) (block_height items))) + 1
-item_height (old_function_item exts ws d attrs ds opening items closing) = max (specs_height ws) (max (declr_height d) (max (attrs_height attrs) (max (declarations_height ds) (block_height items)))) + 1
+item_height (function_item exts ws d attrs opening items closing) =
+    max (specs_height ws) (max (declr_height d) (max (attrs_height attrs) (block_height items))) + 1
+item_height (old_function_item exts ws d attrs ds opening items closing) =
+    max (specs_height ws)
+    (max (declr_height d) (max (attrs_height attrs) (max (declarations_height ds) (block_height items)))) + 1
 item_height (decl_item d) = decl_height d
 item_height (asm_item keyword group semi) = 1
 item_height (semi_item semi) = 1
@@ -112,8 +124,13 @@ begins_attribute (d ∷ rest) = false
 
 -- an item is well formed; a function's declarator declares one, and its specifiers have no `typedef`
 abbrev pub IsItem : List Lexeme → Item → Type 0
-IsItem all (function_item exts ws d attrs opening items closing) = IsMix ws × AreSpecWords all ws × (has_auto ws ≡ false) × ¬ Contains (storage_words ws) Typedef × IsDeclr all d × (declares_function d ≡ true) × AreAttrs all attrs × AreBlockItems all items × AreLabelsFirst items
-IsItem all (old_function_item exts ws d attrs ds opening items closing) = IsMix ws × AreSpecWords all ws × (has_auto ws ≡ false) × ¬ Contains (storage_words ws) Typedef × IsDeclr all d × (lists_identifiers d ≡ true) × AreAttrs all attrs × All (IsDeclaration all) ds × AreBlockItems all items × AreLabelsFirst items × (begins_attribute ds ≡ false)
+IsItem all (function_item exts ws d attrs opening items closing) =
+    IsMix ws × AreSpecWords all ws × (has_auto ws ≡ false) × ¬ Contains (storage_words ws) Typedef × IsDeclr all d
+    × (declares_function d ≡ true) × AreAttrs all attrs × AreBlockItems all items × AreLabelsFirst items
+IsItem all (old_function_item exts ws d attrs ds opening items closing) =
+    IsMix ws × AreSpecWords all ws × (has_auto ws ≡ false) × ¬ Contains (storage_words ws) Typedef × IsDeclr all d
+    × (lists_identifiers d ≡ true) × AreAttrs all attrs × All (IsDeclaration all) ds × AreBlockItems all items
+    × AreLabelsFirst items × (begins_attribute ds ≡ false)
 IsItem all (decl_item d) = IsDecl all d
 IsItem all (asm_item keyword group semi) = IsGroup all group
 IsItem all (semi_item semi) = Unit {0}

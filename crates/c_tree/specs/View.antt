@@ -54,32 +54,44 @@ abbrev mutual
   expr_of (rust_expr.Times' _ a t _ b) = operation (expr_of a) (binary puncts.Star) t (expr_of b)
   expr_of (rust_expr.Divide' _ a t _ b) = operation (expr_of a) (binary puncts.Slash) t (expr_of b)
   expr_of (rust_expr.Remainder' _ a t _ b) = operation (expr_of a) (binary puncts.Percent) t (expr_of b)
-  expr_of (rust_expr.Cast' opening _ ws d closing _ e) = cast opening (spec_words_of ws) (some_declr_of d) closing (expr_of e)
+  expr_of (rust_expr.Cast' opening _ ws d closing _ e) =
+      cast opening (spec_words_of ws) (some_declr_of d) closing (expr_of e)
   expr_of (rust_expr.Prefix' token p _ e) = prefix token p (expr_of e)
   expr_of (rust_expr.Sizeof' word _ e) = sizeof_value word (expr_of e)
-  expr_of (rust_expr.SizeofType' word opening _ ws d closing) = sizeof_type word opening (spec_words_of ws) (some_declr_of d) closing
+  expr_of (rust_expr.SizeofType' word opening _ ws d closing) =
+      sizeof_type word opening (spec_words_of ws) (some_declr_of d) closing
   expr_of (rust_expr.Ext' keyword _ e) = extension keyword (expr_of e)
   expr_of (rust_expr.Index' _ e opening _ e2 closing) = index (expr_of e) opening (expr_of e2) closing
   expr_of (rust_expr.Call' _ e opening _ es closing) = call (expr_of e) opening (exprs_of es) closing
   expr_of (rust_expr.Dot' _ e token name) = dot (expr_of e) token name
   expr_of (rust_expr.Arrow' _ e token name) = arrow (expr_of e) token name
   expr_of (rust_expr.Post' _ e token p) = post (expr_of e) token p
-  expr_of (rust_expr.Compound' opening _ ws d closing list) = compound opening (spec_words_of ws) (some_declr_of d) closing (init_list_of list)
+  expr_of (rust_expr.Compound' opening _ ws d closing list) =
+      compound opening (spec_words_of ws) (some_declr_of d) closing (init_list_of list)
   expr_of (rust_expr.NameUse token name) = name_use token name
   expr_of (rust_expr.NumberUse token) = number_use token
   expr_of (rust_expr.CharUse token) = char_use token
   expr_of (rust_expr.TextUse texts) = text_use texts.items
   expr_of (rust_expr.Paren' opening _ e closing) = paren opening (expr_of e) closing
-  expr_of (rust_expr.StmtExpr' opening opening2 _ items closing closing2) = statement_expr opening opening2 (block_items_of items) closing closing2
-  expr_of (rust_expr.VaArg' keyword opening _ e separator _ ws d closing) = va_arg keyword opening (expr_of e) separator (spec_words_of ws) (some_declr_of d) closing
-  expr_of (rust_expr.VaStart' keyword opening _ e separator _ e2 closing) = va_start keyword opening (expr_of e) separator (expr_of e2) closing
-  expr_of (rust_expr.VaCopy' keyword opening _ e separator _ e2 closing) = va_copy keyword opening (expr_of e) separator (expr_of e2) closing
-  expr_of (rust_expr.Offset' keyword opening _ ws d separator name _ steps closing) = offset keyword opening (spec_words_of ws) (some_declr_of d) separator name (desigs_of steps) closing
+  expr_of (rust_expr.StmtExpr' opening opening2 _ items closing closing2) =
+      statement_expr opening opening2 (block_items_of items) closing closing2
+  expr_of (rust_expr.VaArg' keyword opening _ e separator _ ws d closing) =
+      va_arg keyword opening (expr_of e) separator (spec_words_of ws) (some_declr_of d) closing
+  expr_of (rust_expr.VaStart' keyword opening _ e separator _ e2 closing) =
+      va_start keyword opening (expr_of e) separator (expr_of e2) closing
+  expr_of (rust_expr.VaCopy' keyword opening _ e separator _ e2 closing) =
+      va_copy keyword opening (expr_of e) separator (expr_of e2) closing
+  expr_of (rust_expr.Offset' keyword opening _ ws d separator name _ steps closing) =
+      offset keyword opening (spec_words_of ws) (some_declr_of d) separator name (desigs_of steps) closing
   expr_of (rust_expr.Part' keyword _ e) = complex_part keyword (expr_of e)
   expr_of (rust_expr.LabelUse token name) = label_use token name
-  expr_of (rust_expr.Compat' keyword opening _ ws d separator _ ws2 d2 closing) = compat keyword opening (spec_words_of ws) (some_declr_of d) separator (spec_words_of ws2) (some_declr_of d2) closing
-  expr_of (rust_expr.Choose' keyword opening _ e separator _ e2 separator2 _ e3 closing) = choose keyword opening (expr_of e) separator (expr_of e2) separator2 (expr_of e3) closing
-  expr_of (rust_expr.Generic' keyword opening _ e _ xs closing) = generic keyword opening (expr_of e) (assocs_of xs) closing
+  expr_of (rust_expr.Compat' keyword opening _ ws d separator _ ws2 d2 closing) =
+      compat keyword opening (spec_words_of ws) (some_declr_of d) separator (spec_words_of ws2)
+      (some_declr_of d2) closing
+  expr_of (rust_expr.Choose' keyword opening _ e separator _ e2 separator2 _ e3 closing) =
+      choose keyword opening (expr_of e) separator (expr_of e2) separator2 (expr_of e3) closing
+  expr_of (rust_expr.Generic' keyword opening _ e _ xs closing) =
+      generic keyword opening (expr_of e) (assocs_of xs) closing
 
   -- the associations of a generic selection
   pub assocs_of : {m : _} → rust_expr.Row_of-Assoc m → Assocs
@@ -119,30 +131,35 @@ abbrev mutual
   spec_word_of (rust_spec_word.TypedefName name) = typedef_name name
   spec_word_of (rust_spec_word.Attr attr) = attribute attr
   spec_word_of (rust_spec_word.Typeof' keyword opening _ e closing) = typeof_value keyword opening (expr_of e) closing
-  spec_word_of (rust_spec_word.TypeofType' word opening _ ws d closing) = typeof_type word opening (spec_words_of ws) (some_declr_of d) closing
+  spec_word_of (rust_spec_word.TypeofType' word opening _ ws d closing) =
+      typeof_type word opening (spec_words_of ws) (some_declr_of d) closing
   spec_word_of (rust_spec_word.Align attr) = align attr
   spec_word_of (rust_spec_word.Auto token) = auto_word token
 
   -- the body of a struct or union, where it has one
   pub some_body_of : rust_struct.Held-Struct-body → SomeBody
   some_body_of rust_struct.Struct-body-None' = no_body
-  some_body_of (rust_struct.Struct-body-Some' opening _ items closing) = some_body opening (struct_items_of items) closing
+  some_body_of (rust_struct.Struct-body-Some' opening _ items closing) =
+      some_body opening (struct_items_of items) closing
 
   -- the members of a struct or union
   pub struct_items_of : {m : _} → rust_struct.Row_of-StructItem m → StructItems
   struct_items_of rust_struct.end_of-StructItem = no_struct_items
-  struct_items_of (rust_struct.more_of-StructItem item items) = more_struct_items (struct_item_of item) (struct_items_of items)
+  struct_items_of (rust_struct.more_of-StructItem item items) =
+      more_struct_items (struct_item_of item) (struct_items_of items)
 
   -- one member's declaration
   pub struct_item_of : rust_struct_item.StructItem → StructItem
-  struct_item_of (rust_struct_item.Member' exts _ ws _ ds semi) = member exts.items (spec_words_of ws) (mem_declrs_of ds) semi
+  struct_item_of (rust_struct_item.Member' exts _ ws _ ds semi) =
+      member exts.items (spec_words_of ws) (mem_declrs_of ds) semi
   struct_item_of (rust_struct_item.Semi semi) = member_semi semi
   struct_item_of (rust_struct_item.Assert it) = member_assert it
 
   -- the declarators of a member's declaration
   pub mem_declrs_of : {m : _} → rust_member.Row_of-Member-declrs-2 m → MemDeclrs
   mem_declrs_of rust_member.end_of-Member-declrs-2 = no_mem_declrs
-  mem_declrs_of (rust_member.more_of-Member-declrs-2 attrs d ds) = more_mem_declrs attrs.items (mem_declr_of d) (mem_declrs_of ds)
+  mem_declrs_of (rust_member.more_of-Member-declrs-2 attrs d ds) =
+      more_mem_declrs attrs.items (mem_declr_of d) (mem_declrs_of ds)
 
   -- one declarator of a member, or the width of an unnamed bit-field
   pub mem_declr_of : rust_mem_declr.MemDeclr → MemDeclr
@@ -161,24 +178,30 @@ abbrev mutual
   -- the body of an enumeration, where it has one
   pub some_enum_body_of : rust_enum.Held-Enum-body → SomeEnumBody
   some_enum_body_of rust_enum.Enum-body-None' = no_enum_body
-  some_enum_body_of (rust_enum.Enum-body-Some' opening _ es last closing) = some_enum_body opening (enumerators_of es) last closing
+  some_enum_body_of (rust_enum.Enum-body-Some' opening _ es last closing) =
+      some_enum_body opening (enumerators_of es) last closing
 
   -- the enumerators of an enumeration
   pub enumerators_of : {m : _} → rust_enum.Row_of-Enumerator m → Enumerators
   enumerators_of rust_enum.end_of-Enumerator = no_enumerators
-  enumerators_of (rust_enum.more_of-Enumerator name attrs value es) = more_enumerators name attrs.items (some_value_of value) (enumerators_of es)
+  enumerators_of (rust_enum.more_of-Enumerator name attrs value es) =
+      more_enumerators name attrs.items (some_value_of value) (enumerators_of es)
 
   -- a declarator
   pub declr_of : rust_declr.Declr → Declr
   declr_of (rust_declr.Pointer' star words _ d) = pointer star words.items (declr_of d)
   declr_of (rust_declr.DeclName token name) = declr_name token name
   declr_of (rust_declr.DeclParen' opening attrs _ d closing) = declr_paren opening attrs.items (declr_of d) closing
-  declr_of (rust_declr.Array' _ d opening words size closing) = array (declr_of d) opening words.items (some_size_of size) closing
-  declr_of (rust_declr.Params' _ d opening _ ps dots closing) = params (declr_of d) opening (params_of ps) (option_map dots_of dots) closing
+  declr_of (rust_declr.Array' _ d opening words size closing) =
+      array (declr_of d) opening words.items (some_size_of size) closing
+  declr_of (rust_declr.Params' _ d opening _ ps dots closing) =
+      params (declr_of d) opening (params_of ps) (option_map dots_of dots) closing
   declr_of (rust_declr.AbsPointer' star words d) = abs_pointer star words.items (some_declr_of d)
   declr_of (rust_declr.AbsParen' opening attrs _ d closing) = abs_paren opening attrs.items (declr_of d) closing
-  declr_of (rust_declr.AbsArray' d opening words size closing) = abs_array (some_declr_of d) opening words.items (some_size_of size) closing
-  declr_of (rust_declr.AbsParams' d opening _ ps dots closing) = abs_params (some_declr_of d) opening (params_of ps) (option_map dots_of dots) closing
+  declr_of (rust_declr.AbsArray' d opening words size closing) =
+      abs_array (some_declr_of d) opening words.items (some_size_of size) closing
+  declr_of (rust_declr.AbsParams' d opening _ ps dots closing) =
+      abs_params (some_declr_of d) opening (params_of ps) (option_map dots_of dots) closing
   declr_of (rust_declr.Identifiers' _ d opening names closing) = identifiers (declr_of d) opening names.items closing
   declr_of (rust_declr.BaseName token) = base_name token
 
@@ -200,7 +223,8 @@ abbrev mutual
   -- the parameters of a function declarator
   pub params_of : {m : _} → rust_declr.Row_of-Param m → Params
   params_of rust_declr.end_of-Param = no_params
-  params_of (rust_declr.more_of-Param _ ws d attrs ps) = more_params (spec_words_of ws) (some_declr_of d) attrs.items (params_of ps)
+  params_of (rust_declr.more_of-Param _ ws d attrs ps) =
+      more_params (spec_words_of ws) (some_declr_of d) attrs.items (params_of ps)
 
   -- an initialiser
   pub init_of : rust_init.Init → Init
@@ -209,12 +233,14 @@ abbrev mutual
 
   -- a braced list of initialisers
   pub init_list_of : rust_init_list.InitList → InitList
-  init_list_of (rust_init_list.InitList' opening _ items last closing) = init_list opening (init_items_of items) last closing
+  init_list_of (rust_init_list.InitList' opening _ items last closing) =
+      init_list opening (init_items_of items) last closing
 
   -- the items of a list of initialisers
   pub init_items_of : {m : _} → rust_init_list.Row_of-InitItem m → InitItems
   init_items_of rust_init_list.end_of-InitItem = no_init_items
-  init_items_of (rust_init_list.more_of-InitItem _ ds equal init items) = more_init_items (desigs_of ds) equal (init_of init) (init_items_of items)
+  init_items_of (rust_init_list.more_of-InitItem _ ds equal init items) =
+      more_init_items (desigs_of ds) equal (init_of init) (init_items_of items)
 
   -- designators, or the steps of an offset
   pub desigs_of : {m : _} → rust_init_item.Row_of-Desig m → Desigs
@@ -236,11 +262,13 @@ abbrev mutual
   -- the declarators of a declaration
   pub init_declrs_of : {m : _} → rust_declaration.Row_of-Declaration-declrs-2 m → InitDeclrs
   init_declrs_of rust_declaration.end_of-Declaration-declrs-2 = no_init_declrs
-  init_declrs_of (rust_declaration.more_of-Declaration-declrs-2 attrs _ d asm_label attrs2 init ds) = more_init_declrs attrs.items (declr_of d) asm_label attrs2.items (some_init_of init) (init_declrs_of ds)
+  init_declrs_of (rust_declaration.more_of-Declaration-declrs-2 attrs _ d asm_label attrs2 init ds) =
+      more_init_declrs attrs.items (declr_of d) asm_label attrs2.items (some_init_of init) (init_declrs_of ds)
 
   -- a declaration
   pub declaration_of : rust_declaration.Declaration → Declaration
-  declaration_of (rust_declaration.Declaration' exts _ ws _ ds semi) = declaration exts.items (spec_words_of ws) (init_declrs_of ds) semi
+  declaration_of (rust_declaration.Declaration' exts _ ws _ ds semi) =
+      declaration exts.items (spec_words_of ws) (init_declrs_of ds) semi
 
   -- a declaration or a `_Static_assert`
   pub decl_of : rust_decl.Decl → Decl
@@ -250,7 +278,8 @@ abbrev mutual
   -- the items of a block
   pub block_items_of : {m : _} → rust_block.Row_of-BlockItem m → BlockItems
   block_items_of rust_block.end_of-BlockItem = no_block_items
-  block_items_of (rust_block.more_of-BlockItem item items) = more_block_items (block_item_of item) (block_items_of items)
+  block_items_of (rust_block.more_of-BlockItem item items) =
+      more_block_items (block_item_of item) (block_items_of items)
 
   -- one item of a block
   pub block_item_of : rust_block_item.BlockItem → BlockItem
@@ -266,17 +295,23 @@ abbrev mutual
   stmt_of (rust_stmt.Label' name colon attrs _ s) = label name colon attrs.items (stmt_of s)
   stmt_of (rust_stmt.Case' keyword _ e colon _ s) = case_stmt keyword (expr_of e) colon (stmt_of s)
   stmt_of (rust_stmt.Default' keyword colon _ s) = default_stmt keyword colon (stmt_of s)
-  stmt_of (rust_stmt.If' keyword opening _ e closing _ s other) = if_stmt keyword opening (expr_of e) closing (stmt_of s) (some_else_of other)
-  stmt_of (rust_stmt.Switch' keyword opening _ e closing _ s) = switch_stmt keyword opening (expr_of e) closing (stmt_of s)
-  stmt_of (rust_stmt.While' keyword opening _ e closing _ s) = while_stmt keyword opening (expr_of e) closing (stmt_of s)
-  stmt_of (rust_stmt.Do' keyword _ s keyword2 opening _ e closing semi) = do_stmt keyword (stmt_of s) keyword2 opening (expr_of e) closing semi
-  stmt_of (rust_stmt.For' keyword opening start e semi e2 closing _ s) = for_stmt keyword opening (for_start_of start) (some_expr_of e) semi (some_expr_of e2) closing (stmt_of s)
+  stmt_of (rust_stmt.If' keyword opening _ e closing _ s other) =
+      if_stmt keyword opening (expr_of e) closing (stmt_of s) (some_else_of other)
+  stmt_of (rust_stmt.Switch' keyword opening _ e closing _ s) =
+      switch_stmt keyword opening (expr_of e) closing (stmt_of s)
+  stmt_of (rust_stmt.While' keyword opening _ e closing _ s) =
+      while_stmt keyword opening (expr_of e) closing (stmt_of s)
+  stmt_of (rust_stmt.Do' keyword _ s keyword2 opening _ e closing semi) =
+      do_stmt keyword (stmt_of s) keyword2 opening (expr_of e) closing semi
+  stmt_of (rust_stmt.For' keyword opening start e semi e2 closing _ s) =
+      for_stmt keyword opening (for_start_of start) (some_expr_of e) semi (some_expr_of e2) closing (stmt_of s)
   stmt_of (rust_stmt.Goto keyword name semi) = goto_stmt keyword name semi
   stmt_of (rust_stmt.Continue keyword semi) = continue_stmt keyword semi
   stmt_of (rust_stmt.Break keyword semi) = break_stmt keyword semi
   stmt_of (rust_stmt.Return' keyword e semi) = return_stmt keyword (some_expr_of e) semi
   stmt_of (rust_stmt.Asm keyword words group semi) = asm_stmt keyword words.items group semi
-  stmt_of (rust_stmt.CaseRange' keyword _ e dots _ e2 colon _ s) = case_range keyword (expr_of e) dots (expr_of e2) colon (stmt_of s)
+  stmt_of (rust_stmt.CaseRange' keyword _ e dots _ e2 colon _ s) =
+      case_range keyword (expr_of e) dots (expr_of e2) colon (stmt_of s)
   stmt_of (rust_stmt.GotoValue' keyword star _ e semi) = goto_value keyword star (expr_of e) semi
 
   -- the `else` of an `if`, where there is one

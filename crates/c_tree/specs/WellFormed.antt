@@ -296,11 +296,13 @@ has_auto no_words = false
 has_auto (more_words w ws) = is_auto w || has_auto ws
 
 -- Behind words with `__auto_type` one name stands, with an expression that gives it its type; where `typedef` is one of
--- the
--- words, it is a base word, which declares nothing.
+-- the words, it is a base word, which declares nothing.
 abbrev pub IsAutoDeclr : SpecWords → InitDeclrs → Type 0
-IsAutoDeclr ws (more_init_declrs attrs (declr_name token name) None attrs2 (some_init equal (init_value e)) no_init_declrs) = ¬ Contains (storage_words ws) Typedef
-IsAutoDeclr ws (more_init_declrs attrs (base_name token) None attrs2 (some_init equal (init_value e)) no_init_declrs) = Contains (storage_words ws) Typedef
+IsAutoDeclr ws
+    (more_init_declrs attrs (declr_name token name) None attrs2 (some_init equal (init_value e)) no_init_declrs) =
+    ¬ Contains (storage_words ws) Typedef
+IsAutoDeclr ws (more_init_declrs attrs (base_name token) None attrs2 (some_init equal (init_value e)) no_init_declrs) =
+    Contains (storage_words ws) Typedef
 IsAutoDeclr ws _ = ⊥
 
 -- the rule of `__auto_type`, where it is among the words
@@ -363,11 +365,15 @@ module _ (all : List Lexeme) where
   abbrev mutual
     -- an expression (6.5) whose operands hold together as tightly as their operators want
     pub IsExpr : Expr → Type 0
-    IsExpr (operation e op token e2) = IsExpr e × IsExpr e2 × IsOperator op × IsMiddle op × (left_level op ≤ expr_level e) × (right_level op ≤ expr_level e2)
-    IsExpr (cast opening ws d closing e) = IsMix ws × AreTypeWords ws × IsSomeAbstract d × IsExpr e × (13 ≤ expr_level e)
+    IsExpr (operation e op token e2) =
+        IsExpr e × IsExpr e2 × IsOperator op × IsMiddle op × (left_level op ≤ expr_level e)
+        × (right_level op ≤ expr_level e2)
+    IsExpr (cast opening ws d closing e) =
+        IsMix ws × AreTypeWords ws × IsSomeAbstract d × IsExpr e × (13 ≤ expr_level e)
     IsExpr (prefix token p e) = IsExpr e × (prefix_level p ≤ expr_level e)
     IsExpr (sizeof_value word e) = IsExpr e × (is_sizeof word.keyword ≡ true) × (14 ≤ expr_level e)
-    IsExpr (sizeof_type word opening ws d closing) = IsMix ws × AreTypeWords ws × IsSomeAbstract d × (is_sizeof word.keyword ≡ true)
+    IsExpr (sizeof_type word opening ws d closing) =
+        IsMix ws × AreTypeWords ws × IsSomeAbstract d × (is_sizeof word.keyword ≡ true)
     IsExpr (extension keyword e) = IsExpr e × (13 ≤ expr_level e)
     IsExpr (index e opening e2 closing) = IsExpr e × IsExpr e2 × (15 ≤ expr_level e)
     IsExpr (call e opening es closing) = IsExpr e × AreArguments es × (15 ≤ expr_level e)
@@ -381,14 +387,20 @@ module _ (all : List Lexeme) where
     IsExpr (text_use texts) = texts ≢ []
     IsExpr (paren opening e closing) = IsExpr e
     IsExpr (statement_expr opening opening2 items closing closing2) = AreBlockItems items × AreLabelsFirst items
-    IsExpr (va_arg keyword opening e separator ws d closing) = IsExpr e × IsMix ws × AreTypeWords ws × IsSomeAbstract d × (1 ≤ expr_level e)
-    IsExpr (va_start keyword opening e separator e2 closing) = IsExpr e × IsExpr e2 × (1 ≤ expr_level e) × (1 ≤ expr_level e2)
-    IsExpr (va_copy keyword opening e separator e2 closing) = IsExpr e × IsExpr e2 × (1 ≤ expr_level e) × (1 ≤ expr_level e2)
-    IsExpr (offset keyword opening ws d separator name steps closing) = IsMix ws × AreTypeWords ws × IsSomeAbstract d × AreSteps steps
+    IsExpr (va_arg keyword opening e separator ws d closing) =
+        IsExpr e × IsMix ws × AreTypeWords ws × IsSomeAbstract d × (1 ≤ expr_level e)
+    IsExpr (va_start keyword opening e separator e2 closing) =
+        IsExpr e × IsExpr e2 × (1 ≤ expr_level e) × (1 ≤ expr_level e2)
+    IsExpr (va_copy keyword opening e separator e2 closing) =
+        IsExpr e × IsExpr e2 × (1 ≤ expr_level e) × (1 ≤ expr_level e2)
+    IsExpr (offset keyword opening ws d separator name steps closing) =
+        IsMix ws × AreTypeWords ws × IsSomeAbstract d × AreSteps steps
     IsExpr (complex_part keyword e) = IsExpr e × (13 ≤ expr_level e)
     IsExpr (label_use token name) = Unit {0}
-    IsExpr (compat keyword opening ws d separator ws2 d2 closing) = IsMix ws × AreTypeWords ws × IsSomeAbstract d × IsMix ws2 × AreTypeWords ws2 × IsSomeAbstract d2
-    IsExpr (choose keyword opening e separator e2 separator2 e3 closing) = IsExpr e × IsExpr e2 × IsExpr e3 × (1 ≤ expr_level e) × (1 ≤ expr_level e2) × (1 ≤ expr_level e3)
+    IsExpr (compat keyword opening ws d separator ws2 d2 closing) =
+        IsMix ws × AreTypeWords ws × IsSomeAbstract d × IsMix ws2 × AreTypeWords ws2 × IsSomeAbstract d2
+    IsExpr (choose keyword opening e separator e2 separator2 e3 closing) =
+        IsExpr e × IsExpr e2 × IsExpr e3 × (1 ≤ expr_level e) × (1 ≤ expr_level e2) × (1 ≤ expr_level e3)
     IsExpr (generic keyword opening e xs closing) = IsExpr e × (1 ≤ expr_level e) × (xs ≢ no_assocs) × AreAssocs xs
 
     -- the associations of `_Generic`, each an assignment expression behind its colon
@@ -460,12 +472,14 @@ module _ (all : List Lexeme) where
     IsSpecWord (noreturn keyword) = Unit {0}
     IsSpecWord (qualifier qual) = IsWordQual all qual
     IsSpecWord (basic word) = Unit {0}
-    IsSpecWord (struct_type word attrs tag body) = (is_struct word.keyword ≡ true) × AreAttrs all attrs × HasTagOrBody tag body × IsBody body
+    IsSpecWord (struct_type word attrs tag body) =
+        (is_struct word.keyword ≡ true) × AreAttrs all attrs × HasTagOrBody tag body × IsBody body
     IsSpecWord (enum_type enum) = IsEnum enum
     IsSpecWord (typedef_name name) = Unit {0}
     IsSpecWord (attribute attr) = IsGroup all attr.group
     IsSpecWord (typeof_value keyword opening e closing) = IsExpr e
-    IsSpecWord (typeof_type word opening ws d closing) = (is_type_former word.keyword ≡ true) × IsMix ws × AreTypeWords ws × IsSomeAbstract d
+    IsSpecWord (typeof_type word opening ws d closing) =
+        (is_type_former word.keyword ≡ true) × IsMix ws × AreTypeWords ws × IsSomeAbstract d
     IsSpecWord (align attr) = IsGroup all attr.group
     IsSpecWord (auto_word token) = Unit {0}
 
@@ -481,7 +495,8 @@ module _ (all : List Lexeme) where
 
     -- a member's declaration (6.7.2.1), which has no `__auto_type`
     pub IsStructItem : StructItem → Type 0
-    IsStructItem (member exts ws ds semi) = IsMix ws × AreSpecWords ws × (has_auto ws ≡ false) × IsMemStart ds × AreMemDeclrs ds
+    IsStructItem (member exts ws ds semi) =
+        IsMix ws × AreSpecWords ws × (has_auto ws ≡ false) × IsMemStart ds × AreMemDeclrs ds
     IsStructItem (member_semi semi) = Unit {0}
     IsStructItem (member_assert it) = IsGroup all it.group
 
@@ -492,7 +507,8 @@ module _ (all : List Lexeme) where
 
     -- a member's declarator with a name, maybe with a width, or a width alone
     pub IsMemDeclr : MemDeclr → Type 0
-    IsMemDeclr (named d width attrs) = IsDeclr d × (is_named d ≡ true) × IsSomeValue width × AreAttrs all attrs × (lists_identifiers d ≡ false)
+    IsMemDeclr (named d width attrs) =
+        IsDeclr d × (is_named d ≡ true) × IsSomeValue width × AreAttrs all attrs × (lists_identifiers d ≡ false)
     IsMemDeclr (unnamed colon e attrs) = IsExpr e × (2 ≤ expr_level e) × AreAttrs all attrs
 
     -- a width or a value that may be left out, a constant expression by its level
@@ -519,8 +535,10 @@ module _ (all : List Lexeme) where
     IsDeclr (pointer star words d) = All (IsPointerWord all) words × IsDeclr d × (is_named d ≡ true)
     IsDeclr (declr_name token name) = Unit {0}
     IsDeclr (declr_paren opening attrs d closing) = AreAttrs all attrs × IsDeclr d × (is_named d ≡ true)
-    IsDeclr (array d opening words size closing) = IsDeclr d × (is_named d ≡ true) × (is_direct d ≡ true) × All (IsArrayWord all) words × IsSize size
-    IsDeclr (params d opening ps dots closing) = IsDeclr d × (is_named d ≡ true) × (is_direct d ≡ true) × AreParams ps × IsEllipsis all ps dots
+    IsDeclr (array d opening words size closing) =
+        IsDeclr d × (is_named d ≡ true) × (is_direct d ≡ true) × All (IsArrayWord all) words × IsSize size
+    IsDeclr (params d opening ps dots closing) =
+        IsDeclr d × (is_named d ≡ true) × (is_direct d ≡ true) × AreParams ps × IsEllipsis all ps dots
     IsDeclr (abs_pointer star words d) = All (IsPointerWord all) words × IsSomeAbstract d
     IsDeclr (abs_paren opening attrs d closing) = AreAttrs all attrs × IsDeclr d × (is_named d ≡ false)
     IsDeclr (abs_array d opening words size closing) = IsSomeDirect d × All (IsArrayWord all) words × IsSize size
@@ -551,7 +569,9 @@ module _ (all : List Lexeme) where
     -- the parameters of a function declarator
     pub AreParams : Params → Type 0
     AreParams no_params = Unit {0}
-    AreParams (more_params ws d attrs ps) = IsMix ws × AreSpecWords ws × (has_auto ws ≡ false) × IsSomeDeclr d × AreAttrs all attrs × IsParamEnd d attrs × AreParams ps × (some_lists_identifiers d ≡ false)
+    AreParams (more_params ws d attrs ps) =
+        IsMix ws × AreSpecWords ws × (has_auto ws ≡ false) × IsSomeDeclr d × AreAttrs all attrs × IsParamEnd d attrs
+        × AreParams ps × (some_lists_identifiers d ≡ false)
 
     -- a declarator that may be absent, with a name or without
     pub IsSomeDeclr : SomeDeclr → Type 0
@@ -570,7 +590,8 @@ module _ (all : List Lexeme) where
     -- the items of a list of initialisers
     pub AreInitItems : InitItems → Type 0
     AreInitItems no_init_items = Unit {0}
-    AreInitItems (more_init_items ds equal init items) = AreDesigs ds × IsDesignated ds equal × IsInit init × AreInitItems items
+    AreInitItems (more_init_items ds equal init items) =
+        AreDesigs ds × IsDesignated ds equal × IsInit init × AreInitItems items
 
     -- an initialiser that may be left out
     pub IsSomeInit : SomeInit → Type 0
@@ -580,11 +601,15 @@ module _ (all : List Lexeme) where
     -- the declarators of a declaration, each with a name
     pub AreInitDeclrs : InitDeclrs → Type 0
     AreInitDeclrs no_init_declrs = Unit {0}
-    AreInitDeclrs (more_init_declrs attrs d asm_label attrs2 init ds) = AreAttrs all attrs × IsDeclr d × (is_named d ≡ true) × IsLabel all asm_label × AreAttrs all attrs2 × IsSomeInit init × AreInitDeclrs ds × (lists_identifiers d ≡ false)
+    AreInitDeclrs (more_init_declrs attrs d asm_label attrs2 init ds) =
+        AreAttrs all attrs × IsDeclr d × (is_named d ≡ true) × IsLabel all asm_label × AreAttrs all attrs2
+        × IsSomeInit init × AreInitDeclrs ds × (lists_identifiers d ≡ false)
 
     -- a declaration (6.7)
     pub IsDeclaration : Declaration → Type 0
-    IsDeclaration (declaration exts ws ds semi) = IsMix ws × AreSpecWords ws × IsInitStart ds × AreInitDeclrs ds × IsAutoWhere (has_auto ws) ws ds × IsBaseStart ws ds
+    IsDeclaration (declaration exts ws ds semi) =
+        IsMix ws × AreSpecWords ws × IsInitStart ds × AreInitDeclrs ds × IsAutoWhere (has_auto ws) ws ds
+        × IsBaseStart ws ds
 
     -- a declaration, or a `_Static_assert` with a group
     pub IsDecl : Decl → Type 0
@@ -614,13 +639,15 @@ module _ (all : List Lexeme) where
     IsStmt (switch_stmt keyword opening e closing s) = IsExpr e × IsStmt s
     IsStmt (while_stmt keyword opening e closing s) = IsExpr e × IsStmt s
     IsStmt (do_stmt keyword s keyword2 opening e closing semi) = IsStmt s × IsExpr e
-    IsStmt (for_stmt keyword opening start e semi e2 closing s) = IsStart start × IsSomeExpr e × IsSomeExpr e2 × IsStmt s
+    IsStmt (for_stmt keyword opening start e semi e2 closing s) =
+        IsStart start × IsSomeExpr e × IsSomeExpr e2 × IsStmt s
     IsStmt (goto_stmt keyword name semi) = Unit {0}
     IsStmt (continue_stmt keyword semi) = Unit {0}
     IsStmt (break_stmt keyword semi) = Unit {0}
     IsStmt (return_stmt keyword e semi) = IsSomeExpr e
     IsStmt (asm_stmt keyword words group semi) = All (λ w. is_asm_word w.keyword ≡ true) words × IsGroup all group
-    IsStmt (case_range keyword e dots e2 colon s) = IsExpr e × (2 ≤ expr_level e) × IsExpr e2 × (2 ≤ expr_level e2) × IsStmt s
+    IsStmt (case_range keyword e dots e2 colon s) =
+        IsExpr e × (2 ≤ expr_level e) × IsExpr e2 × (2 ≤ expr_level e2) × IsStmt s
     IsStmt (goto_value keyword star e semi) = IsExpr e
 
     -- an `else` belongs to the nearest `if`

@@ -1,6 +1,7 @@
 -- What is found on the tapes of sources is what the rules say of them.
 use Rattle.std.proofs.Common.{arith, ◌≡◌, ℕ, zero, suc, ◌+◌, ◌<◌, List, [], ◌∷◌, ◌++◌, length, map, drop, slice_index_or, Option, Some, None, refl, sym, ◌∙◌, ap, subst, append_assoc}
 use Rattle.std.specs.Prelude.{All, IfSome}
+use Rattle.qual_base.proofs.Lists.{map_more}
 use Rattle.name_rules.specs.Faults.{Fault, IsFirst}
 use Rattle.name_rules.specs.Scopes.{Names}
 use Rattle.name_rules.specs.Linking.{body_faults}
@@ -32,10 +33,6 @@ module _ {A B : Type 0} (f : A → B) where
   mapped_on xs i x ys lt is =
       append_assoc ys (f x ∷ []) (map f (drop (i + 1) xs)) ∙ ap (λ (zs : List B). ys ++ zs) (dropped xs i x lt is)
 
-pub map_more : {A B : Type 0} (f : A → B) (xs ys : List A) → map f (xs ++ ys) ≡ map f xs ++ map f ys
-map_more f [] ys = refl
-map_more f (x ∷ xs) ys = ap (λ zs. f x ∷ zs) (map_more f xs ys)
-
 -- the tapes of the sources from one on, behind others
 abbrev pub tapes_from : List Lexed → List Read → List Tape
 tapes_from before sources = map tape_of_source (sources_behind before (units_of sources))
@@ -47,7 +44,8 @@ next_tape : (sources : List Read) (i : ℕ) (it : Read) (before : List Lexed) �
     ≡ tapes_from before (drop i sources)
 next_tape [] i it before is lt = absurd (omega arith)
 next_tape (x ∷ sources) zero it before is lt =
-    ap (λ (r : Read). tape_of_source (source_behind before (unit_of r)) ∷ tapes_from (before ++ r.tokens ∷ []) sources) is
+    ap (λ (r : Read). tape_of_source (source_behind before (unit_of r))
+    ∷ tapes_from (before ++ r.tokens ∷ []) sources) is
 next_tape (x ∷ sources) (suc i) it before is lt =
     let e : suc i + 1 ≡ suc (i + 1) = omega arith in rw e (next_tape sources i it before is (omega arith))
 
@@ -84,8 +82,10 @@ module _ (law : NamesOfTapes) (sources : List Source) (sound : All IsSound sourc
   faults_are : faults_on tapes ≡ all_found sources
   faults_are =
       ap faults_on taped
-      ∙ ap (λ (s : Names). s.faults ++ (body_faults s ++ faults_among s (map tape_of_source sources))) (law sources sound)
-      ∙ ap (λ (fs : List Fault). (names_of sources).faults ++ (body_faults (names_of sources) ++ fs)) (found_is sources (names_of sources))
+      ∙ ap (λ (s : Names). s.faults ++ (body_faults s ++ faults_among s (map tape_of_source sources)))
+      (law sources sound)
+      ∙ ap (λ (fs : List Fault). (names_of sources).faults ++ (body_faults (names_of sources) ++ fs))
+      (found_is sources (names_of sources))
 
   pub none_is : NoneIsFound → faults_on tapes ≡ [] → HasNoFault sources
   none_is none is = (none sources).0 (sym faults_are ∙ is)

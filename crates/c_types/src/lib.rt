@@ -14,5 +14,5 @@ mod units;
 
 pub use resolving::{resolve, resolve_tapes};
 pub use source::Source;
-pub use unit_types::{Program, ShapeFault, UnitTape};
+pub use unit_types::{Fault, Program, Rule, ShapeFault, UnitTape};
 pub use units::Units;

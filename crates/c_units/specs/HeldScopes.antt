@@ -3,8 +3,7 @@
 --
 -- A name's scope begins behind its declarator. Until then the name is held: it is not visible and has no kind, and an
 -- enumerator inside its declarator, whose scope would be the same, cannot take it. One held name a scope is enough,
--- since
--- inside a declarator only enumerators are declared in the scope of its name.
+-- since inside a declarator only enumerators are declared in the scope of its name.
 use Rattle.std.specs.Prelude.{ℕ, nat_eq, Bool, true, false, List, [], ◌∷◌, Option, None, Some, if◌then◌else◌}
 use Rattle.typedef_scope.specs.declared.kind.Kind.{Kind}
 use Rattle.typedef_scope.specs.declared.kind.Kind.TheVariants.{Typedef}

@@ -3,11 +3,9 @@
 -- gone through in the order of its text.
 --
 -- A name's scope begins behind its declarator, an enumerator's behind its value. Parameters, blocks, the statements
--- that
--- choose and repeat and each direct part of these have scopes of their own (C99, 6.8.4 and 6.8.5); the parameters of a
--- function are in the scope of its body (6.9.1), with the enumerators that stand among them. A typedef holds from there
--- on;
--- a later one of the same name in its scope changes nothing. Labels, tags and members are no ordinary names.
+-- that choose and repeat and each direct part of these have scopes of their own (C99, 6.8.4 and 6.8.5); the parameters
+-- of a function are in the scope of its body (6.9.1), with the enumerators that stand among them. A typedef holds from
+-- there on; a later one of the same name in its scope changes nothing. Labels, tags and members are no ordinary names.
 use Rattle.std.specs.Prelude.{ℕ, Bool, true, false, ◌&&◌, not, List, [], ◌∷◌, Option, None, Some, if◌then◌else◌}
 use Rattle.c_words.specs.declared.kinds.Keyword.{Keyword}
 use Rattle.c_words.specs.declared.kinds.Keyword.TheVariants.{Typedef as TypedefWord}
@@ -97,7 +95,8 @@ abbrev mutual
   pub shows_no_type : HeldScopes → Declr → Bool
   shows_no_type scopes (pointer star words d) = shows_no_type scopes d
   shows_no_type scopes (declr_name token name) = true
-  shows_no_type scopes (declr_paren opening attrs d closing) = not (begins_with_type scopes (first_name d)) && shows_no_type scopes d
+  shows_no_type scopes (declr_paren opening attrs d closing) =
+      not (begins_with_type scopes (first_name d)) && shows_no_type scopes d
   shows_no_type scopes (array d opening words size closing) = shows_no_type scopes d
   shows_no_type scopes (params d opening ps dots closing) = shows_no_type scopes d
   shows_no_type scopes (abs_pointer star words d) = some_shows_no_type scopes d
@@ -116,7 +115,8 @@ abbrev mutual
   -- behind an expression; only the type names and blocks in it declare names
   pub expr_scopes : Expr → HeldScopes → Option HeldScopes
   expr_scopes (operation e op token e2) s = behind (behind (expr_scopes e s) (operator_scopes op)) (expr_scopes e2)
-  expr_scopes (cast opening ws d closing e) s = behind (behind (spec_words_scopes ws s) (some_declr_scopes None d)) (expr_scopes e)
+  expr_scopes (cast opening ws d closing e) s =
+      behind (behind (spec_words_scopes ws s) (some_declr_scopes None d)) (expr_scopes e)
   expr_scopes (prefix token p e) s = expr_scopes e s
   expr_scopes (sizeof_value word e) s = expr_scopes e s
   expr_scopes (sizeof_type word opening ws d closing) s = behind (spec_words_scopes ws s) (some_declr_scopes None d)
@@ -126,22 +126,27 @@ abbrev mutual
   expr_scopes (dot e token name) s = expr_scopes e s
   expr_scopes (arrow e token name) s = expr_scopes e s
   expr_scopes (post e token p) s = expr_scopes e s
-  expr_scopes (compound opening ws d closing list) s = behind (behind (spec_words_scopes ws s) (some_declr_scopes None d)) (init_list_scopes list)
+  expr_scopes (compound opening ws d closing list) s =
+      behind (behind (spec_words_scopes ws s) (some_declr_scopes None d)) (init_list_scopes list)
   expr_scopes (name_use token name) s = where_true (not (names_type s name)) s
   expr_scopes (number_use token) s = Some s
   expr_scopes (char_use token) s = Some s
   expr_scopes (text_use texts) s = Some s
   expr_scopes (paren opening e closing) s = expr_scopes e s
   expr_scopes (statement_expr opening opening2 items closing closing2) s = in_own_scope (block_items_scopes items) s
-  expr_scopes (va_arg keyword opening e separator ws d closing) s = behind (behind (expr_scopes e s) (spec_words_scopes ws)) (some_declr_scopes None d)
+  expr_scopes (va_arg keyword opening e separator ws d closing) s =
+      behind (behind (expr_scopes e s) (spec_words_scopes ws)) (some_declr_scopes None d)
   expr_scopes (va_start keyword opening e separator e2 closing) s = behind (expr_scopes e s) (expr_scopes e2)
   expr_scopes (va_copy keyword opening e separator e2 closing) s = behind (expr_scopes e s) (expr_scopes e2)
-  expr_scopes (offset keyword opening ws d separator name steps closing) s = behind (behind (spec_words_scopes ws s) (some_declr_scopes None d)) (desigs_scopes steps)
+  expr_scopes (offset keyword opening ws d separator name steps closing) s =
+      behind (behind (spec_words_scopes ws s) (some_declr_scopes None d)) (desigs_scopes steps)
   expr_scopes (complex_part keyword e) s = expr_scopes e s
   expr_scopes (label_use token name) s = where_true (is_wide s) s
   expr_scopes (compat keyword opening ws d separator ws2 d2 closing) s =
-      behind (behind (behind (spec_words_scopes ws s) (some_declr_scopes None d)) (spec_words_scopes ws2)) (some_declr_scopes None d2)
-  expr_scopes (choose keyword opening e separator e2 separator2 e3 closing) s = behind (behind (expr_scopes e s) (expr_scopes e2)) (expr_scopes e3)
+      behind (behind (behind (spec_words_scopes ws s) (some_declr_scopes None d)) (spec_words_scopes ws2))
+      (some_declr_scopes None d2)
+  expr_scopes (choose keyword opening e separator e2 separator2 e3 closing) s =
+      behind (behind (expr_scopes e s) (expr_scopes e2)) (expr_scopes e3)
   expr_scopes (generic keyword opening e xs closing) s = behind (expr_scopes e s) (assocs_scopes xs)
 
   -- behind the associations of `_Generic`
@@ -151,7 +156,8 @@ abbrev mutual
 
   -- behind an association
   pub assoc_scopes : Assoc → HeldScopes → Option HeldScopes
-  assoc_scopes (typed_assoc ws d colon e) s = behind (behind (spec_words_scopes ws s) (some_declr_scopes None d)) (expr_scopes e)
+  assoc_scopes (typed_assoc ws d colon e) s =
+      behind (behind (spec_words_scopes ws s) (some_declr_scopes None d)) (expr_scopes e)
   assoc_scopes (default_assoc keyword colon e) s = expr_scopes e s
 
   -- behind an operator, with the middle of `?:`
@@ -189,7 +195,8 @@ abbrev mutual
   spec_word_scopes (typedef_name name) s = where_true (names_type s name.name) s
   spec_word_scopes (attribute attr) s = Some s
   spec_word_scopes (typeof_value keyword opening e closing) s = expr_scopes e s
-  spec_word_scopes (typeof_type word opening ws d closing) s = behind (spec_words_scopes ws s) (some_declr_scopes None d)
+  spec_word_scopes (typeof_type word opening ws d closing) s =
+      behind (spec_words_scopes ws s) (some_declr_scopes None d)
   spec_word_scopes (align attr) s = Some s
   spec_word_scopes (auto_word token) s = Some s
 
@@ -237,7 +244,8 @@ abbrev mutual
   pub enumerators_scopes : Enumerators → HeldScopes → Option HeldScopes
   enumerators_scopes no_enumerators s = Some s
   enumerators_scopes (more_enumerators name attrs value es) s =
-      behind (declare name.name Constant s) (λ _. behind (behind (some_value_scopes value s) (declare name.name Constant)) (enumerators_scopes es))
+      behind (declare name.name Constant s)
+      (λ _. behind (behind (some_value_scopes value s) (declare name.name Constant)) (enumerators_scopes es))
 
   -- behind a declarator, whose name is held where a kind is wanted
   pub declr_scopes : Option Kind → Declr → HeldScopes → Option HeldScopes
@@ -245,12 +253,16 @@ abbrev mutual
   declr_scopes kind (declr_name token name) s = at_name kind name s
   declr_scopes kind (declr_paren opening attrs d closing) s = declr_scopes kind d s
   declr_scopes kind (array d opening words size closing) s = behind (declr_scopes kind d s) (some_size_scopes size)
-  declr_scopes kind (params d opening ps dots closing) s = behind (declr_scopes kind d s) (in_own_scope (params_scopes ps))
+  declr_scopes kind (params d opening ps dots closing) s =
+      behind (declr_scopes kind d s) (in_own_scope (params_scopes ps))
   declr_scopes kind (abs_pointer star words d) s = some_declr_scopes kind d s
   declr_scopes kind (abs_paren opening attrs d closing) s = declr_scopes kind d s
-  declr_scopes kind (abs_array d opening words size closing) s = behind (some_declr_scopes kind d s) (some_size_scopes size)
-  declr_scopes kind (abs_params d opening ps dots closing) s = behind (some_declr_scopes kind d s) (in_own_scope (params_scopes ps))
-  declr_scopes kind (identifiers d opening names closing) s = behind (declr_scopes kind d s) (λ t. behind (where_true (is_wide t) t) (identifiers_scopes names))
+  declr_scopes kind (abs_array d opening words size closing) s =
+      behind (some_declr_scopes kind d s) (some_size_scopes size)
+  declr_scopes kind (abs_params d opening ps dots closing) s =
+      behind (some_declr_scopes kind d s) (in_own_scope (params_scopes ps))
+  declr_scopes kind (identifiers d opening names closing) s =
+      behind (declr_scopes kind d s) (λ t. behind (where_true (is_wide t) t) (identifiers_scopes names))
   declr_scopes kind (base_name token) s = where_true (is_wide s && is_typedef kind) s
 
   -- behind a declarator that may be absent
@@ -272,7 +284,8 @@ abbrev mutual
   pub params_scopes : Params → HeldScopes → Option HeldScopes
   params_scopes no_params s = Some s
   params_scopes (more_params ws d attrs ps) s =
-      behind (behind (behind (spec_words_scopes ws s) (λ t. where_true (some_shows_no_type t d) t)) (some_declr_scopes (Some Value) d))
+      behind (behind (behind (spec_words_scopes ws s) (λ t. where_true (some_shows_no_type t d) t))
+      (some_declr_scopes (Some Value) d))
       (λ t. params_scopes ps (release Value t))
 
   -- behind an initialiser
@@ -287,7 +300,8 @@ abbrev mutual
   -- behind the items of a braced list
   pub init_items_scopes : InitItems → HeldScopes → Option HeldScopes
   init_items_scopes no_init_items s = Some s
-  init_items_scopes (more_init_items ds equal init items) s = behind (behind (desigs_scopes ds s) (init_scopes init)) (init_items_scopes items)
+  init_items_scopes (more_init_items ds equal init items) s =
+      behind (behind (desigs_scopes ds s) (init_scopes init)) (init_items_scopes items)
 
   -- behind the designators of an item, or the steps of an offset
   pub desigs_scopes : Desigs → HeldScopes → Option HeldScopes
@@ -298,7 +312,8 @@ abbrev mutual
   pub desig_scopes : Desig → HeldScopes → Option HeldScopes
   desig_scopes (member_desig token name) s = Some s
   desig_scopes (index_desig opening e closing) s = expr_scopes e s
-  desig_scopes (range_desig opening e dots e2 closing) s = behind (behind (expr_scopes e s) (λ t. where_true (is_wide t) t)) (expr_scopes e2)
+  desig_scopes (range_desig opening e dots e2 closing) s =
+      behind (behind (expr_scopes e s) (λ t. where_true (is_wide t) t)) (expr_scopes e2)
   desig_scopes (old_desig name colon) s = where_true (is_wide s) s
 
   -- behind the initialiser of a declarator, if any
@@ -310,18 +325,21 @@ abbrev mutual
   pub init_declrs_scopes : Kind → InitDeclrs → HeldScopes → Option HeldScopes
   init_declrs_scopes kind no_init_declrs s = Some s
   init_declrs_scopes kind (more_init_declrs attrs d asm_label attrs2 init ds) s =
-      behind (behind (declr_scopes (Some kind) d s) (λ t. some_init_scopes init (release kind t))) (init_declrs_scopes kind ds)
+      behind (behind (declr_scopes (Some kind) d s) (λ t. some_init_scopes init (release kind t)))
+      (init_declrs_scopes kind ds)
 
   -- a name of the type of its initialiser is declared behind that; a base word declares nothing
   pub auto_declrs_scopes : InitDeclrs → HeldScopes → Option HeldScopes
   auto_declrs_scopes no_init_declrs s = Some s
   auto_declrs_scopes (more_init_declrs attrs d asm_label attrs2 init ds) s =
-      behind (behind (behind (if is_base d then Some s else declr_scopes (Some Value) d s) (some_init_scopes init)) (λ t. Some (release Value t))) (auto_declrs_scopes ds)
+      behind (behind (behind (if is_base d then Some s else declr_scopes (Some Value) d s) (some_init_scopes init))
+      (λ t. Some (release Value t))) (auto_declrs_scopes ds)
 
   -- behind a declaration
   pub declaration_scopes : Declaration → HeldScopes → Option HeldScopes
   declaration_scopes (declaration exts ws ds semi) s =
-      behind (spec_words_scopes ws s) (if has_auto ws then auto_declrs_scopes ds else init_declrs_scopes (declared_kind ws) ds)
+      behind (spec_words_scopes ws s)
+      (if has_auto ws then auto_declrs_scopes ds else init_declrs_scopes (declared_kind ws) ds)
 
   -- behind a declaration or a `_Static_assert`
   pub decl_scopes : Decl → HeldScopes → Option HeldScopes
@@ -349,17 +367,22 @@ abbrev mutual
   stmt_scopes (default_stmt keyword colon t) s = stmt_scopes t s
   stmt_scopes (if_stmt keyword opening e closing t other) s =
       in_own_scope (λ u. behind (behind (expr_scopes e u) (in_own_scope (stmt_scopes t))) (some_else_scopes other)) s
-  stmt_scopes (switch_stmt keyword opening e closing t) s = in_own_scope (λ u. behind (expr_scopes e u) (in_own_scope (stmt_scopes t))) s
-  stmt_scopes (while_stmt keyword opening e closing t) s = in_own_scope (λ u. behind (expr_scopes e u) (in_own_scope (stmt_scopes t))) s
-  stmt_scopes (do_stmt keyword t keyword2 opening e closing semi) s = in_own_scope (λ u. behind (in_own_scope (stmt_scopes t) u) (expr_scopes e)) s
+  stmt_scopes (switch_stmt keyword opening e closing t) s =
+      in_own_scope (λ u. behind (expr_scopes e u) (in_own_scope (stmt_scopes t))) s
+  stmt_scopes (while_stmt keyword opening e closing t) s =
+      in_own_scope (λ u. behind (expr_scopes e u) (in_own_scope (stmt_scopes t))) s
+  stmt_scopes (do_stmt keyword t keyword2 opening e closing semi) s =
+      in_own_scope (λ u. behind (in_own_scope (stmt_scopes t) u) (expr_scopes e)) s
   stmt_scopes (for_stmt keyword opening start e semi e2 closing t) s =
-      in_own_scope (λ u. behind (behind (behind (for_start_scopes start u) (some_expr_scopes e)) (some_expr_scopes e2)) (in_own_scope (stmt_scopes t))) s
+      in_own_scope (λ u. behind (behind (behind (for_start_scopes start u) (some_expr_scopes e)) (some_expr_scopes e2))
+      (in_own_scope (stmt_scopes t))) s
   stmt_scopes (goto_stmt keyword name semi) s = Some s
   stmt_scopes (continue_stmt keyword semi) s = Some s
   stmt_scopes (break_stmt keyword semi) s = Some s
   stmt_scopes (return_stmt keyword e semi) s = some_expr_scopes e s
   stmt_scopes (asm_stmt keyword words group semi) s = Some s
-  stmt_scopes (case_range keyword e dots e2 colon t) s = behind (behind (behind (expr_scopes e s) (λ u. where_true (is_wide u) u)) (expr_scopes e2)) (stmt_scopes t)
+  stmt_scopes (case_range keyword e dots e2 colon t) s =
+      behind (behind (behind (expr_scopes e s) (λ u. where_true (is_wide u) u)) (expr_scopes e2)) (stmt_scopes t)
   stmt_scopes (goto_value keyword star e semi) s = behind (where_true (is_wide s) s) (expr_scopes e)
 
   -- behind the `else` of an `if`, if any

@@ -1,6 +1,5 @@
 -- The well-formed units of preprocessed C: their tokens are those of the grammar, the rules beside the grammar hold,
--- each
--- name has the kind of its place by scope, and the height is at most 500.
+-- each name has the kind of its place by scope, and the height is at most 500.
 use Rattle.std.specs.Prelude.{◌≡◌, ℕ, Bool, suc, List, [], ◌∷◌, Option, None, Some}
 use Rattle.c_words.specs.declared.kinds.TokenKind.{TokenKind}
 use Rattle.c_tree.specs.declared.lexeme.Lexeme.{Lexeme}
@@ -56,7 +55,8 @@ own_scope (Some own) s = behind (hold own.name Value s) (λ t. params_scopes own
 -- a function is declared behind its declarator; its body goes on in the scope of its own parameters
 abbrev pub function_scopes : SpecWords → Declr → BlockItems → HeldScopes → Option HeldScopes
 function_scopes ws d items s =
-    behind (spec_words_scopes ws s) (λ t. behind (declr_scopes (Some Value) d t) (λ u. behind (own_scope (own_params d) t)
+    behind (spec_words_scopes ws s) (λ t.
+    behind (declr_scopes (Some Value) d t) (λ u. behind (own_scope (own_params d) t)
     (λ w. behind (block_items_scopes items (reopen (innermost w) (release Value u))) (λ inner. Some (leave inner)))))
 
 -- the declarations of parameters behind a list of identifiers
@@ -68,8 +68,10 @@ declarations_scopes (d ∷ ds) s = behind (declaration_scopes d s) (declarations
 -- the last of these.
 abbrev pub old_function_scopes : SpecWords → Declr → List Declaration → BlockItems → HeldScopes → Option HeldScopes
 old_function_scopes ws d ds items s =
-    behind (spec_words_scopes ws s) (λ t. behind (declr_scopes (Some Value) d t) (λ u. behind (declarations_scopes ds (enter u))
-    (λ w. behind (block_items_scopes items (reopen (innermost w) (release Value (leave w)))) (λ inner. Some (leave inner)))))
+    behind (spec_words_scopes ws s) (λ t.
+    behind (declr_scopes (Some Value) d t) (λ u. behind (declarations_scopes ds (enter u))
+    (λ w. behind (block_items_scopes items (reopen (innermost w) (release Value (leave w))))
+    (λ inner. Some (leave inner)))))
 
 -- the scopes behind an item of a unit, by those before it
 abbrev pub item_scopes : Item → HeldScopes → Option HeldScopes
@@ -85,8 +87,7 @@ items_scopes [] s = Some s
 items_scopes (item ∷ items) s = behind (item_scopes item s) (items_scopes items)
 
 -- The tokens are those of these items, which obey the grammar and the rules beside it, and each name has the kind of
--- its
--- place. The unit is read as wider C or not.
+-- its place. The unit is read as wider C or not.
 pub record IsWellFormed (wide : Bool) (all : List Lexeme) (items : List Item) : Type 0 where
   pub tokens : AreTokensOf all items
   pub rules : IsUnit all items

@@ -45,7 +45,8 @@ at_number A9 = refl
 
 -- what lists say as a certificate
 abbrev said : List (ℕ × ℕ) → List ℕ → List ℕ → Certificate
-said pairs first second = record { paired = λ u v. is_among pairs u v; first = λ v e. is_in first v e; second = λ v e. is_in second v e }
+said pairs first second =
+    record { paired = λ u v. is_among pairs u v; first = λ v e. is_in first v e; second = λ v e. is_in second v e }
 
 -- lists of certificates that are the same have the same one at each place
 same_at : (ones others : List Part) (n : ℕ) (one : Part) → AreSame ones others → slice_get ones n ≡ Some one →
@@ -56,7 +57,8 @@ same_at (p ∷ ps) (q ∷ qs) zero one same there =
     let here : p ≡ one = some_part there in
     let certificates =
     ap (λ (pairs : List (ℕ × ℕ)). said pairs p.first.items p.second.items) same.0
-    ∙ ap (λ (first : List ℕ). said q.pairs.items first p.second.items) same.1 ∙ ap (λ (second : List ℕ). said q.pairs.items q.first.items second) same.2 in
+    ∙ ap (λ (first : List ℕ). said q.pairs.items first p.second.items) same.1
+    ∙ ap (λ (second : List ℕ). said q.pairs.items q.first.items second) same.2 in
     (q, refl, ap certificate_of (sym here) ∙ certificates)
 same_at (p ∷ ps) (q ∷ qs) (suc n) one same there = same_at ps qs n one same.3 there
 
@@ -66,7 +68,8 @@ module _ (sys : System) (orders : List Order) where
       → FailsFirst sys orders ones n rule → ObeysAt sys orders others n → ⊥
   not_both ones others n rule same fails obeys =
       let found = same_at ones others n fails.part same fails.at in
-      fails.fails.fails (subst (λ (c : Certificate). ObeysRule sys n fails.order c rule) (sym found.2) (obeys fails.order found.0 fails.there found.1 rule))
+      fails.fails.fails (subst (λ (c : Certificate). ObeysRule sys n fails.order c rule) (sym found.2)
+      (obeys fails.order found.0 fails.there found.1 rule))
 
   -- and of the rules that it breaks one is the lowest
   not_lower : (ones others : List Part) (n : ℕ) (rule other : CertRule) → AreSame ones others
@@ -97,7 +100,8 @@ module _ (sys : System) (orders : List Order) where
   same_failing ones others n m rule other same back a b = elim (cases_order n m) [
     | inl is ↦
         let At : ℕ → Type 0 = λ k. FailsFirst sys orders others k other in
-        ap (λ (r : CertRule). Fails (n + 1) r) (same_rule ones others n rule other same back a (subst At (sym is) b)) ∙ ap (λ (k : ℕ). Fails (k + 1) other) is
+        ap (λ (r : CertRule). Fails (n + 1) r) (same_rule ones others n rule other same back a (subst At (sym is) b))
+        ∙ ap (λ (k : ℕ). Fails (k + 1) other) is
     | inr differs ↦ elim differs [
       | inl low ↦ absurd (not_both ones others n rule same a (b.before n low))
       | inr high ↦ absurd (not_both others ones m other back b (a.before m high))
@@ -110,38 +114,53 @@ grammar_is e = cc
 nameless_is : {a b : ℕ} → NoSuchVariable a ≡ NoSuchVariable b → a ≡ b
 nameless_is e = cc
 
-module _ (reads : ReadsOnce) (once : OneFault) (none : TextHasNoFault) (sys : System) (orders : List Order) (text : List ℕ) (bounded : IsBounded sys orders) where
+module _ (reads : ReadsOnce) (once : OneFault) (none : TextHasNoFault) (sys : System) (orders : List Order)
+    (text : List ℕ) (bounded : IsBounded sys orders) where
   -- a text that reads does not stop at a line, nor name what is no variable
   no_misfit : (parts : List Part) (line : ℕ) → ReadsAs sys orders text parts
       → IsPlaced sys orders (lines_of text) (Grammar line) → ⊥
-  no_misfit parts line is placed = let wrong : Grammar line ≡ NoMemory = none sys orders text parts (Grammar line) bounded is placed in cc
+  no_misfit parts line is placed =
+      let wrong : Grammar line ≡ NoMemory = none sys orders text parts (Grammar line) bounded is placed in
+      cc
 
   no_nameless : (parts : List Part) (line : ℕ) → ReadsAs sys orders text parts
       → IsPlaced sys orders (lines_of text) (NoSuchVariable line) → ⊥
-  no_nameless parts line is placed = let wrong : NoSuchVariable line ≡ NoMemory = none sys orders text parts (NoSuchVariable line) bounded is placed in cc
+  no_nameless parts line is placed =
+      let wrong : NoSuchVariable line ≡ NoMemory = none sys orders text parts (NoSuchVariable line) bounded is placed in
+      cc
 
   one_of : (one other : Verdict) → ComesTo sys orders text one → ComesTo sys orders text other → one ≡ other
   one_of _ _ (Proves ps r all) (Proves qs q every) = refl
-  one_of _ _ (Proves ps r all) (Breaks qs n rule q fails) = absurd (not_both sys orders qs ps n rule (reads sys orders text qs ps bounded q r) fails (all n))
+  one_of _ _ (Proves ps r all) (Breaks qs n rule q fails) =
+      absurd (not_both sys orders qs ps n rule (reads sys orders text qs ps bounded q r) fails (all n))
   one_of _ _ (Proves ps r all) (StopsAt line placed) = absurd (no_misfit ps line r placed)
   one_of _ _ (Proves ps r all) (NamesNone line placed) = absurd (no_nameless ps line r placed)
-  one_of _ _ (Breaks ps n rule r fails) (Proves qs q every) = absurd (not_both sys orders ps qs n rule (reads sys orders text ps qs bounded r q) fails (every n))
+  one_of _ _ (Breaks ps n rule r fails) (Proves qs q every) =
+      absurd (not_both sys orders ps qs n rule (reads sys orders text ps qs bounded r q) fails (every n))
   one_of _ _ (Breaks ps n rule r fails) (Breaks qs m other q failing) =
-      same_failing sys orders ps qs n m rule other (reads sys orders text ps qs bounded r q) (reads sys orders text qs ps bounded q r) fails failing
+      same_failing sys orders ps qs n m rule other (reads sys orders text ps qs bounded r q)
+      (reads sys orders text qs ps bounded q r) fails failing
   one_of _ _ (Breaks ps n rule r fails) (StopsAt line placed) = absurd (no_misfit ps line r placed)
   one_of _ _ (Breaks ps n rule r fails) (NamesNone line placed) = absurd (no_nameless ps line r placed)
   one_of _ _ (StopsAt line placed) (Proves qs q every) = absurd (no_misfit qs line q placed)
   one_of _ _ (StopsAt line placed) (Breaks qs m other q failing) = absurd (no_misfit qs line q placed)
   one_of _ _ (StopsAt line placed) (StopsAt other there) =
-      ap (λ (k : ℕ). Unread k V1) (grammar_is (once sys orders (lines_of text) (Grammar line) (Grammar other) (λ e. cc) (λ e. cc) placed there))
+      ap (λ (k : ℕ). Unread k V1)
+      (grammar_is (once sys orders (lines_of text) (Grammar line) (Grammar other) (λ e. cc) (λ e. cc) placed there))
   one_of _ _ (StopsAt line placed) (NamesNone other there) =
-      let wrong : Grammar line ≡ NoSuchVariable other = once sys orders (lines_of text) (Grammar line) (NoSuchVariable other) (λ e. cc) (λ e. cc) placed there in absurd cc
+      let wrong : Grammar line ≡ NoSuchVariable other =
+      once sys orders (lines_of text) (Grammar line) (NoSuchVariable other) (λ e. cc) (λ e. cc) placed there in
+      absurd cc
   one_of _ _ (NamesNone line placed) (Proves qs q every) = absurd (no_nameless qs line q placed)
   one_of _ _ (NamesNone line placed) (Breaks qs m other q failing) = absurd (no_nameless qs line q placed)
   one_of _ _ (NamesNone line placed) (StopsAt other there) =
-      let wrong : NoSuchVariable line ≡ Grammar other = once sys orders (lines_of text) (NoSuchVariable line) (Grammar other) (λ e. cc) (λ e. cc) placed there in absurd cc
+      let wrong : NoSuchVariable line ≡ Grammar other =
+      once sys orders (lines_of text) (NoSuchVariable line) (Grammar other) (λ e. cc) (λ e. cc) placed there in
+      absurd cc
   one_of _ _ (NamesNone line placed) (NamesNone other there) =
-      ap (λ (k : ℕ). Unread k V2) (nameless_is (once sys orders (lines_of text) (NoSuchVariable line) (NoSuchVariable other) (λ e. cc) (λ e. cc) placed there))
+      ap (λ (k : ℕ). Unread k V2) (nameless_is
+      (once sys orders (lines_of text) (NoSuchVariable line) (NoSuchVariable other) (λ e. cc) (λ e. cc) placed there))
 
 pub one_verdict : ReadsOnce → OneFault → TextHasNoFault → OneVerdict
-one_verdict reads once none sys orders text one other bounded a b = one_of reads once none sys orders text bounded one other a b
+one_verdict reads once none sys orders text one other bounded a b =
+    one_of reads once none sys orders text bounded one other a b

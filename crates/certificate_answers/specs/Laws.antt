@@ -15,12 +15,15 @@ AreOrders orders = (n : ℕ) (order : Order) → slice_get orders n ≡ Some ord
 
 -- What is written of a well owned system that is accepted, holds where it is read.
 abbrev pub WrittenReads : Type 0
-WrittenReads = (sys : System) (orders : List Order) (text : List ℕ) → IsWellOwned sys → AreOrders orders → IsAccepted sys orders →
+WrittenReads =
+    (sys : System) (orders : List Order) (text : List ℕ) → IsWellOwned sys → AreOrders orders → IsAccepted sys orders →
     IsCertificate sys orders text → ComesTo sys orders text Holds
 
 -- Two texts of certificates of a system are the same.
 abbrev pub OneCertificate : Type 0
-OneCertificate = (sys : System) (orders : List Order) (text other : List ℕ) → IsCertificate sys orders text → IsCertificate sys orders other → text ≡ other
+OneCertificate =
+    (sys : System) (orders : List Order) (text other : List ℕ) → IsCertificate sys orders text
+    → IsCertificate sys orders other → text ≡ other
 
 -- A text comes to one thing, over no more constraints, lattices and elements than there may be.
 abbrev pub OneVerdict : Type 0

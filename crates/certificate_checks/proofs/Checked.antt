@@ -1,10 +1,8 @@
 -- The certificates of the first lattices, checked one after the other.
 use Rattle.std.proofs.Common.{◌≡◌, ℕ, zero, suc, ◌+◌, ◌<◌, inl, inr, List, [], ◌∷◌, length, Some, slice_get, refl, sym, ◌∙◌, ap, subst, arith}
-use Rattle.std.specs.Option.{option_map}
 use Rattle.std.proofs.lemmas.Bool.{cases_order}
-use Rattle.std.proofs.lemmas.Option.{slice_get-map, slice_get_within}
+use Rattle.std.proofs.lemmas.Option.{slice_get_within}
 use Rattle.lattice_core.specs.Order.{Order}
-use Rattle.lattice_core.specs.View.{LatticeView, orders_of}
 use Rattle.flow_graph.specs.System.{System}
 use Rattle.flow_graph.specs.Unfolding.{IsAccepted, IsAcceptedIn}
 use Rattle.certificate_laws.specs.Certificates.{Obeys}
@@ -18,14 +16,6 @@ some_part e = cc
 
 some_order : {x y : Order} → Some x ≡ Some y → x ≡ y
 some_order e = cc
-
-pub order_there : (lattices : List LatticeView) (n : ℕ) (view : LatticeView) → slice_get lattices n ≡ Some view
-    → slice_get (orders_of lattices) n ≡ Some view.order
-order_there lattices n view is = slice_get-map (λ (lattice : LatticeView). lattice.order) lattices n ∙ ap (option_map (λ (lattice : LatticeView). lattice.order)) is
-
-pub all_orders : (lattices : List LatticeView) → length (orders_of lattices) ≡ length lattices
-all_orders [] = refl
-all_orders (x ∷ xs) = ap suc (all_orders xs)
 
 module _ (sys : System) where
   -- there are as many certificates as lattices
@@ -54,7 +44,10 @@ pub record FirstObey (sys : System) (orders : List Order) (parts : List Part) (c
 
 module _ (sys : System) (orders : List Order) (parts : List Part) where
   pub none_first : FirstObey sys orders parts 0
-  none_first = record { obey = λ n below. absurd (omega (arith, below)); accepted = λ n order below there. absurd (omega (arith, below)) }
+  none_first = record {
+    obey = λ n below. absurd (omega (arith, below));
+    accepted = λ n order below there. absurd (omega (arith, below));
+  }
 
   -- and so of one more
   pub next_first : (count : ℕ) (order : Order) (part : Part) → slice_get orders count ≡ Some order
@@ -70,7 +63,8 @@ module _ (sys : System) (orders : List Order) (parts : List Part) where
               let Of : Order → Type 0 = λ x. Obeys sys n x (certificate_of part) in
               let By : Part → Type 0 = λ x. Obeys sys n o (certificate_of x) in
               subst By same_p (subst Of same_o (subst At (sym at) own))
-          | inr other ↦ elim other [ inl before ↦ first.obey n before o p o_is p_is | inr past ↦ absurd (omega (arith, past, below)) ]
+          | inr other ↦ elim other
+              [ inl before ↦ first.obey n before o p o_is p_is | inr past ↦ absurd (omega (arith, past, below)) ]
         ];
     accepted = λ n o below o_is.
         elim (cases_order n count) [
@@ -79,13 +73,18 @@ module _ (sys : System) (orders : List Order) (parts : List Part) where
               let At : ℕ → Type 0 = λ k. IsAcceptedIn sys k order in
               let Of : Order → Type 0 = λ x. IsAcceptedIn sys n x in
               subst Of same (subst At (sym at) accepted)
-          | inr other ↦ elim other [ inl before ↦ first.accepted n o before o_is | inr past ↦ absurd (omega (arith, past, below)) ]
+          | inr other ↦ elim other
+              [ inl before ↦ first.accepted n o before o_is | inr past ↦ absurd (omega (arith, past, below)) ]
         ];
   }
 
   module _ (count : ℕ) (all : length orders ≡ count) (first : FirstObey sys orders parts count) where
     pub all_obey : (n : ℕ) → ObeysAt sys orders parts n
-    all_obey n order part o p = let within = slice_get_within orders n order o in first.obey n (omega (arith, within, all)) order part o p
+    all_obey n order part o p =
+        let within = slice_get_within orders n order o in
+        first.obey n (omega (arith, within, all)) order part o p
 
     pub all_accepted : IsAccepted sys orders
-    all_accepted n order there = let within = slice_get_within orders n order there in first.accepted n order (omega (arith, within, all)) there
+    all_accepted n order there =
+        let within = slice_get_within orders n order there in
+        first.accepted n order (omega (arith, within, all)) there

@@ -16,6 +16,8 @@ some_verdict e = cc
 pub fault_comes : (sys : System) (orders : List Order) (text : List ℕ) (fault : CertFault) (verdict : Verdict)
     → unread_of fault ≡ Some verdict →
     IsPlaced sys orders (lines_of text) fault → ComesTo sys orders text verdict
-fault_comes sys orders text (Grammar line) verdict is placed = subst (ComesTo sys orders text) (some_verdict is) (StopsAt line placed)
-fault_comes sys orders text (NoSuchVariable line) verdict is placed = subst (ComesTo sys orders text) (some_verdict is) (NamesNone line placed)
+fault_comes sys orders text (Grammar line) verdict is placed =
+    subst (ComesTo sys orders text) (some_verdict is) (StopsAt line placed)
+fault_comes sys orders text (NoSuchVariable line) verdict is placed =
+    subst (ComesTo sys orders text) (some_verdict is) (NamesNone line placed)
 fault_comes sys orders text NoMemory verdict is placed = absurd cc

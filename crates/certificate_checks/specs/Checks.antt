@@ -17,7 +17,8 @@ use Rattle.certificate_checks.specs.declared.judging.Verdict.TheVariants.{Holds,
 -- the certificate of the lattice with this number obeys the rules, if there is such a lattice
 abbrev pub ObeysAt : System → List Order → List Part → ℕ → Type 0
 ObeysAt sys orders parts n =
-    (order : Order) (part : Part) → slice_get orders n ≡ Some order → slice_get parts n ≡ Some part → Obeys sys n order (certificate_of part)
+    (order : Order) (part : Part) → slice_get orders n ≡ Some order → slice_get parts n ≡ Some part
+    → Obeys sys n order (certificate_of part)
 
 -- the lattice with this number is the first whose certificate breaks a rule, and this is the lowest that it breaks
 pub record FailsFirst (sys : System) (orders : List Order) (parts : List Part) (n : ℕ) (rule : CertRule) : Type 0 where
@@ -29,8 +30,7 @@ pub record FailsFirst (sys : System) (orders : List Order) (parts : List Part) (
   pub before : (m : ℕ) → m < n → ObeysAt sys orders parts m
 
 -- What a text comes to as a certificate over a system: it reads and obeys the rules in every lattice, it reads and
--- breaks one, or it
--- does not read.
+-- breaks one, or it does not read.
 pub data ComesTo (sys : System) (orders : List Order) (text : List ℕ) : Verdict → Type 0 where
   Proves : (parts : List Part) → ReadsAs sys orders text parts → ((n : ℕ) → ObeysAt sys orders parts n)
       → ComesTo sys orders text Holds

@@ -21,10 +21,12 @@ module _ (sys : System) (lattice : ℕ) (c : Certificate) where
   carries_tells e v [] = by_bool (c.first v e)
   carries_tells e v (s ∷ sites) = elim (by_bool (c.first v e)) [
     | inl p ↦ inl (inl p)
-    | inr no_first ↦ elim (some_way sys lattice s (λ u. Carries e u sites) (λ a. c.paired a v ≡ true) (λ u. carries_tells e u sites) (λ a. by_bool (c.paired a v))) [
-      | inl way ↦ inl (inr (way.0, way.1.0, way.1.1, way.1.2, way.1.3, way.1.4))
-      | inr none ↦ inr (λ r. elim r [ inl p ↦ no_first p | inr way ↦ none (way.0, (way.1, way.2, way.3, way.4, way.5)) ])
-    ]
+    | inr no_first ↦ elim (some_way sys lattice s (λ u. Carries e u sites) (λ a. c.paired a v ≡ true)
+        (λ u. carries_tells e u sites) (λ a. by_bool (c.paired a v))) [
+          | inl way ↦ inl (inr (way.0, way.1.0, way.1.1, way.1.2, way.1.3, way.1.4))
+          | inr none ↦
+              inr (λ r. elim r [ inl p ↦ no_first p | inr way ↦ none (way.0, (way.1, way.2, way.3, way.4, way.5)) ])
+        ]
   ]
 
   pub anywhere : (e v : ℕ) (sites : List ℕ) → c.first v e ≡ true → Carries e v sites
@@ -35,7 +37,8 @@ module _ (sys : System) (lattice : ℕ) (order : Order) (c : Certificate) (obeys
   pub second_of : (e v : ℕ) (sites : List ℕ) → Carries sys lattice c e v sites → c.second v e ≡ true
   second_of e v [] p = (obeys A2 v).0 e p
   second_of e v (s ∷ sites) (inl p) = (obeys A2 v).0 e p
-  second_of e v (s ∷ sites) (inr (n, u, a, st, r, pair)) = obeys A8 a v pair e ((obeys A5 n s u a st).0 e (second_of e u sites r))
+  second_of e v (s ∷ sites) (inr (n, u, a, st, r, pair)) =
+      obeys A8 a v pair e ((obeys A5 n s u a st).0 e (second_of e u sites r))
 
   -- a variable of nobody has the same in every copy
   homed : (e v : ℕ) (sites : List ℕ) → owner_of sys v ≡ Nobody → Carries sys lattice c e v sites → c.first v e ≡ true
@@ -71,8 +74,10 @@ module _ (sys : System) (lattice : ℕ) (order : Order) (c : Certificate) (obeys
   flowed e n u v sites st r = by_owner (owner_of sys v) refl
     where
       by_owner : (o : Owner) → owner_of sys v ≡ o → Carries sys lattice c e v sites
-      by_owner Nobody is = anywhere sys lattice c e v sites ((obeys A2 v).1 is e ((obeys A3 n u v st).1 e (second_of e u sites r)))
-      by_owner (Function f) is = goes_on e u v sites ((obeys A3 n u v st).0 e) (λ z pair. obeys A6 n u v z f st is pair) r
+      by_owner Nobody is =
+          anywhere sys lattice c e v sites ((obeys A2 v).1 is e ((obeys A3 n u v st).1 e (second_of e u sites r)))
+      by_owner (Function f) is =
+          goes_on e u v sites ((obeys A3 n u v st).0 e) (λ z pair. obeys A6 n u v z f st is pair) r
 
   pub entered : (e s n u x : ℕ) (sites : List ℕ) → Stands sys lattice n (Enter s u x) → Carries sys lattice c e u sites
       → Carries sys lattice c e x (s ∷ sites)

@@ -23,7 +23,8 @@ test_off : (A : Type 0) (d : Decided A) → test_of A d ≡ true → A
 test_off A (inl a) is = a
 test_off A (inr not) is = absurd cc
 
-module _ (sys : System) (lattice : ℕ) (order : Order) (c : Certificate) (lat : IsLattice order) (names : NamesElementsIn sys lattice order) (obeys : Obeys sys lattice order c) where
+module _ (sys : System) (lattice : ℕ) (order : Order) (c : Certificate) (lat : IsLattice order)
+    (names : NamesElementsIn sys lattice order) (obeys : Obeys sys lattice order c) where
   -- the elements that are carried to a copy
   abbrev In : ℕ → List ℕ → ℕ → Type 0
   In v sites e = Carries sys lattice c e v sites × (e < size order)
@@ -38,7 +39,8 @@ module _ (sys : System) (lattice : ℕ) (order : Order) (c : Certificate) (lat :
 
   abbrev one : (v : ℕ) (sites : List ℕ) → (r : ℕ) × IsLeastOver order (In v sites) r
   one v sites = least_over order (In v sites) (λ e. test_of (In v sites e) (in_tells v sites e)) lat
-      (λ e is. (test_on (In v sites e) (in_tells v sites e) is, is.1)) (λ e t. test_off (In v sites e) (in_tells v sites e) t)
+      (λ e is. (test_on (In v sites e) (in_tells v sites e) is, is.1))
+      (λ e t. test_off (In v sites e) (in_tells v sites e) t)
 
   abbrev copies : Assignment
   copies v sites = (one v sites).0
@@ -50,15 +52,21 @@ module _ (sys : System) (lattice : ℕ) (order : Order) (c : Certificate) (lat :
   raised : (u v : ℕ) (here there : List ℕ)
       → ((e : ℕ) → Carries sys lattice c e u here → Carries sys lattice c e v there)
       → leq order (copies u here) (copies v there) ≡ true
-  raised u v here there h = (least u here).least (copies v there) (least v there).element (λ e r. (least v there).upper e (h e r.0, r.1))
+  raised u v here there h =
+      (least u here).least (copies v there) (least v there).element (λ e r. (least v there).upper e (h e r.0, r.1))
 
   rising : (depth : ℕ) → Rises sys lattice order depth copies
   rising depth = record {
     elements = λ v sites. (least v sites).element;
-    le = λ n u v sites st copy. raised u v _ _ (λ e r. at_home sys lattice order c obeys e v sites (flowed sys lattice order c obeys e n u v sites st (from_home sys lattice order c obeys e u sites r)));
-    const = λ n e v sites st copy. (least v _).upper e (anywhere sys lattice c e v (seen_from (owner_of sys v) sites) (obeys A1 n e v st), names.const n e v st);
-    enter = λ n s u v site sites st there copy fits. raised u v _ _ (λ e r. at_home sys lattice order c obeys e v (s ∷ sites) (entered sys lattice order c obeys e s n u v sites st (from_home sys lattice order c obeys e u sites r)));
-    leave = λ n s u v site sites st there copy fits. raised u v _ _ (λ e r. at_home sys lattice order c obeys e v sites (left sys lattice order c obeys e s n u v sites st (from_home sys lattice order c obeys e u (s ∷ sites) r)));
+    le = λ n u v sites st copy. raised u v _ _ (λ e r. at_home sys lattice order c obeys e v sites
+        (flowed sys lattice order c obeys e n u v sites st (from_home sys lattice order c obeys e u sites r)));
+    const = λ n e v sites st copy. (least v _).upper e
+        (anywhere sys lattice c e v (seen_from (owner_of sys v) sites) (obeys A1 n e v st), names.const n e v st);
+    enter = λ n s u v site sites st there copy fits.
+        raised u v _ _ (λ e r. at_home sys lattice order c obeys e v (s ∷ sites)
+        (entered sys lattice order c obeys e s n u v sites st (from_home sys lattice order c obeys e u sites r)));
+    leave = λ n s u v site sites st there copy fits. raised u v _ _ (λ e r. at_home sys lattice order c obeys e v sites
+        (left sys lattice order c obeys e s n u v sites st (from_home sys lattice order c obeys e u (s ∷ sites) r)));
   }
 
   met : (depth : ℕ) → Meets sys lattice order depth copies
@@ -69,4 +77,5 @@ module _ (sys : System) (lattice : ℕ) (order : Order) (c : Certificate) (lat :
   }
 
 pub certified_is_accepted : CertifiedIsAccepted
-certified_is_accepted sys lattice order c lat names obeys depth = (copies sys lattice order c lat names obeys, met sys lattice order c lat names obeys depth)
+certified_is_accepted sys lattice order c lat names obeys depth =
+    (copies sys lattice order c lat names obeys, met sys lattice order c lat names obeys depth)

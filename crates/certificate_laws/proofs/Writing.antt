@@ -43,7 +43,8 @@ module _ (sys : System) (lattice : ℕ) (owned : IsWellOwned sys) where
       → IsJoined sys lattice z v
   joined_flow n u v z f st is joined =
       let path = path_of z u joined in
-      let same : path.0 ≡ f = same_function sys lattice owned n u v st path.0 f (end_owner sys lattice path.0 z u path.1) is in
+      let same : path.0 ≡ f =
+      same_function sys lattice owned n u v st path.0 f (end_owner sys lattice path.0 z u path.1) is in
       (joined.0, inr (path.0, u, path.1, flow path.0 u v n st (is ∙ ap (λ f. Function f) (sym same))))
 
   joined_group : (n m s u x y v z : ℕ) → Stands sys lattice n (Enter s u x) → IsJoined sys lattice x y
@@ -51,20 +52,25 @@ module _ (sys : System) (lattice : ℕ) (owned : IsWellOwned sys) where
   joined_group n m s u x y v z st inside st2 joined =
       let path = path_of z u joined in
       let within = path_of x y inside in
-      let outer : owner_of sys v ≡ Function path.0 = sym (same_outer sys lattice owned n m s u x y v st st2) ∙ end_owner sys lattice path.0 z u path.1 in
+      let outer : owner_of sys v ≡ Function path.0 =
+      sym (same_outer sys lattice owned n m s u x y v st st2) ∙ end_owner sys lattice path.0 z u path.1 in
       (joined.0, inr (path.0, u, path.1, group path.0 u x y v s within.0 n m st within.1 st2 outer))
 
   return_group : (e n m s u x y v : ℕ) → Stands sys lattice n (Enter s u x) → IsJoined sys lattice x y
       → Stands sys lattice m (Leave s y v) → Returning sys lattice e u → Returning sys lattice e v
-  return_group e n m s u x y v st inside st2 p = let within = path_of x y inside in grouped u x y v s within.0 n m p st within.1 st2
+  return_group e n m s u x y v st inside st2 p =
+      let within = path_of x y inside in
+      grouped u x y v s within.0 n m p st within.1 st2
 
-module _ (sys : System) (lattice : ℕ) (order : Order) (c : Certificate) (owned : IsWellOwned sys) (ordered : IsOrder order)
+module _ (sys : System) (lattice : ℕ) (order : Order) (c : Certificate) (owned : IsWellOwned sys)
+    (ordered : IsOrder order)
     (written : IsWritten sys lattice c) (accepted : IsAcceptedIn sys lattice order) where
   written_obeys : (rule : CertRule) → ObeysRule sys lattice order c rule
   written_obeys A1 = λ n e v st. (written.first v e).1 (start v n st)
   written_obeys A2 = λ v. (
     λ e is. (written.second v e).1 (inl ((written.first v e).0 is)),
-    λ is e in_second. (written.first v e).1 (elim ((written.second v e).0 in_second) [ inl p ↦ p | inr call ↦ anew v call is ]),
+    λ is e in_second.
+        (written.first v e).1 (elim ((written.second v e).0 in_second) [ inl p ↦ p | inr call ↦ anew v call is ]),
   )
   written_obeys A3 = λ n u v st. (
     λ e is. (written.first v e).1 (flows u v n ((written.first u e).0 is) st),
@@ -75,20 +81,28 @@ module _ (sys : System) (lattice : ℕ) (order : Order) (c : Certificate) (owned
     λ e is. (written.second x e).1 (call_on sys lattice owned e n s u x st ((written.second u e).0 is)),
     (written.paired x x).1 ((n, s, u, st), inl refl),
   )
-  written_obeys A6 = λ n u v z f st is pair. (written.paired z v).1 (joined_flow sys lattice owned n u v z f st is ((written.paired z u).0 pair))
+  written_obeys A6 =
+      λ n u v z f st is pair.
+      (written.paired z v).1 (joined_flow sys lattice owned n u v z f st is ((written.paired z u).0 pair))
   written_obeys A7 = λ n m s u x y v st pair st2. (
-    λ e is. (written.first v e).1 (return_group sys lattice owned e n m s u x y v st ((written.paired x y).0 pair) st2 ((written.first u e).0 is)),
-    λ z outer. (written.paired z v).1 (joined_group sys lattice owned n m s u x y v z st ((written.paired x y).0 pair) st2 ((written.paired z u).0 outer)),
+    λ e is. (written.first v e).1 (return_group sys lattice owned e n m s u x y v st ((written.paired x y).0 pair) st2
+        ((written.first u e).0 is)),
+    λ z outer. (written.paired z v).1 (joined_group sys lattice owned n m s u x y v z st
+        ((written.paired x y).0 pair) st2 ((written.paired z u).0 outer)),
   )
   written_obeys A8 = λ z u pair e is.
       let path = path_of sys lattice owned z u ((written.paired z u).0 pair) in
       (written.second u e).1 (lead_on sys lattice owned e path.0 z u path.1 ((written.second z e).0 is))
-  written_obeys A9 = λ n v b st e is. accepted_keeps_paths sys lattice order owned ordered accepted e v n b ((written.second v e).0 is) st
+  written_obeys A9 =
+      λ n v b st e is.
+      accepted_keeps_paths sys lattice order owned ordered accepted e v n b ((written.second v e).0 is) st
 
 pub accepted_is_certified : AcceptedIsCertified
-accepted_is_certified sys lattice order c owned ordered written accepted = λ rule. written_obeys sys lattice order c owned ordered written accepted rule
+accepted_is_certified sys lattice order c owned ordered written accepted =
+    λ rule. written_obeys sys lattice order c owned ordered written accepted rule
 
-module _ (sys : System) (lattice : ℕ) (order : Order) (c : Certificate) (owned : IsWellOwned sys) (obeys : Obeys sys lattice order c) where
+module _ (sys : System) (lattice : ℕ) (order : Order) (c : Certificate) (owned : IsWellOwned sys)
+    (obeys : Obeys sys lattice order c) where
   mutual
     -- a path inside a function is carried on from each pair, and from the first set, at its beginning
     pairs_on : (f x v z : ℕ) → Matches sys lattice f x v → c.paired z x ≡ true → c.paired z v ≡ true
@@ -124,12 +138,17 @@ module _ (sys : System) (lattice : ℕ) (order : Order) (c : Certificate) (owned
     has_first e v (start _ n st) = obeys A1 n e v st
     has_first e v (flows u _ n p st) = (obeys A3 n u v st).0 e (has_first e u p)
     has_first e v (returns u _ s n p st) = obeys A4 n s u v st e (has_first e u p)
-    has_first e v (grouped u a b _ s g n m p st q st2) = (obeys A7 n m s u a b v st (within n s u a g b st q) st2).0 e (has_first e u p)
+    has_first e v (grouped u a b _ s g n m p st q st2) =
+        (obeys A7 n m s u a b v st (within n s u a g b st q) st2).0 e (has_first e u p)
     has_first e v (anew _ call is) = (obeys A2 v).1 is e (comes_second e v (has_second e v call))
 
     has_second : (e v : ℕ) → Calling sys lattice e v → Comes e v
-    has_second e v (calls u _ s n p st) = let on = obeys A5 n s u v st in inr (v, on.1, on.0 e ((obeys A2 u).0 e (has_first e u p)))
-    has_second e v (calls_on u _ s n call st) = let on = obeys A5 n s u v st in inr (v, on.1, on.0 e (comes_second e u (has_second e u call)))
+    has_second e v (calls u _ s n p st) =
+        let on = obeys A5 n s u v st in
+        inr (v, on.1, on.0 e ((obeys A2 u).0 e (has_first e u p)))
+    has_second e v (calls_on u _ s n call st) =
+        let on = obeys A5 n s u v st in
+        inr (v, on.1, on.0 e (comes_second e u (has_second e u call)))
     has_second e v (flows_on u _ n call st) = flow_comes e n u v st (has_second e u call)
     has_second e v (grouped_on u a b _ s g n m call st q st2) =
         let on = obeys A7 n m s u a b v st (within n s u a g b st q) st2 in
@@ -143,6 +162,7 @@ module _ (sys : System) (lattice : ℕ) (order : Order) (c : Certificate) (owned
       let end = joined.0 in
       pairs_on path.0 x v x path.1 (obeys A5 end.0 end.1 end.2 x end.3).1
 
+-- a certificate that obeys the rules has all that the written one has
 pub certified_has_written : CertifiedHasWritten
 certified_has_written sys lattice order c owned obeys = record {
   paired = has_joined sys lattice order c owned obeys;

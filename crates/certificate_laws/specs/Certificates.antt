@@ -24,15 +24,23 @@ Within one other = (e : ℕ) → one e ≡ true → other e ≡ true
 -- What each rule asks, over the constraints of one lattice.
 abbrev pub ObeysRule : System → ℕ → Order → Certificate → CertRule → Type 0
 ObeysRule sys lattice order c A1 = (n e v : ℕ) → Stands sys lattice n (Const lattice e v) → c.first v e ≡ true
-ObeysRule sys lattice order c A2 = (v : ℕ) → Within (c.first v) (c.second v) × (owner_of sys v ≡ Nobody → Within (c.second v) (c.first v))
-ObeysRule sys lattice order c A3 = (n u v : ℕ) → Stands sys lattice n (Le u v) → Within (c.first u) (c.first v) × Within (c.second u) (c.second v)
+ObeysRule sys lattice order c A2 =
+    (v : ℕ) → Within (c.first v) (c.second v) × (owner_of sys v ≡ Nobody → Within (c.second v) (c.first v))
+ObeysRule sys lattice order c A3 =
+    (n u v : ℕ) → Stands sys lattice n (Le u v) → Within (c.first u) (c.first v) × Within (c.second u) (c.second v)
 ObeysRule sys lattice order c A4 = (n s u v : ℕ) → Stands sys lattice n (Leave s u v) → Within (c.first u) (c.first v)
-ObeysRule sys lattice order c A5 = (n s u x : ℕ) → Stands sys lattice n (Enter s u x) → Within (c.second u) (c.second x) × (c.paired x x ≡ true)
-ObeysRule sys lattice order c A6 = (n u v z f : ℕ) → Stands sys lattice n (Le u v) → owner_of sys v ≡ Function f → c.paired z u ≡ true → c.paired z v ≡ true
-ObeysRule sys lattice order c A7 = (n m s u x y v : ℕ) → Stands sys lattice n (Enter s u x) → c.paired x y ≡ true → Stands sys lattice m (Leave s y v) →
+ObeysRule sys lattice order c A5 =
+    (n s u x : ℕ) → Stands sys lattice n (Enter s u x) → Within (c.second u) (c.second x) × (c.paired x x ≡ true)
+ObeysRule sys lattice order c A6 =
+    (n u v z f : ℕ) → Stands sys lattice n (Le u v) → owner_of sys v ≡ Function f → c.paired z u ≡ true
+    → c.paired z v ≡ true
+ObeysRule sys lattice order c A7 =
+    (n m s u x y v : ℕ) → Stands sys lattice n (Enter s u x) → c.paired x y ≡ true
+    → Stands sys lattice m (Leave s y v) →
     Within (c.first u) (c.first v) × ((z : ℕ) → c.paired z u ≡ true → c.paired z v ≡ true)
 ObeysRule sys lattice order c A8 = (z u : ℕ) → c.paired z u ≡ true → Within (c.second z) (c.second u)
-ObeysRule sys lattice order c A9 = (n v b : ℕ) → Stands sys lattice n (Bound v lattice b) → (e : ℕ) → c.second v e ≡ true → leq order e b ≡ true
+ObeysRule sys lattice order c A9 =
+    (n v b : ℕ) → Stands sys lattice n (Bound v lattice b) → (e : ℕ) → c.second v e ≡ true → leq order e b ≡ true
 
 -- the certificate obeys each of the rules
 abbrev pub Obeys : System → ℕ → Order → Certificate → Type 0
@@ -51,7 +59,8 @@ number_of A8 = 8
 number_of A9 = 9
 
 -- the certificate does not obey this rule, and obeys those before it
-pub record IsLowestFailing (sys : System) (lattice : ℕ) (order : Order) (c : Certificate) (rule : CertRule) : Type 0 where
+pub record IsLowestFailing (sys : System) (lattice : ℕ) (order : Order) (c : Certificate)
+    (rule : CertRule) : Type 0 where
   pub fails : ObeysRule sys lattice order c rule → ⊥
   pub before : (other : CertRule) → number_of other < number_of rule → ObeysRule sys lattice order c other
 

@@ -8,7 +8,9 @@ use Rattle.certificate_laws.specs.Certificates.{Certificate, Obeys, IsJoined, Is
 
 -- In a lattice, a system of which a certificate obeys the rules is accepted. It need not be well owned.
 abbrev pub CertifiedIsAccepted : Type 0
-CertifiedIsAccepted = (sys : System) (lattice : ℕ) (order : Order) (c : Certificate) → IsLattice order → NamesElementsIn sys lattice order →
+CertifiedIsAccepted =
+    (sys : System) (lattice : ℕ) (order : Order) (c : Certificate) → IsLattice order
+    → NamesElementsIn sys lattice order →
     Obeys sys lattice order c → IsAcceptedIn sys lattice order
 
 -- The certificate that is written of an accepted system obeys them.

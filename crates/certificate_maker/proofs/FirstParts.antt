@@ -1,11 +1,9 @@
 -- The certificates of the first lattices, one after the other.
 use Rattle.std.proofs.Common.{◌≡◌, ℕ, zero, suc, ◌+◌, ◌<◌, ◌⊎◌, inl, inr, List, [], ◌∷◌, ◌++◌, length, Some, slice_get, refl, sym, ◌∙◌, ap, subst, arith, length-append, IfSome}
 use Rattle.std.specs.declared.option.Option.{Option}
-use Rattle.std.specs.Option.{option_map}
 use Rattle.std.proofs.lemmas.Bool.{cases_order}
-use Rattle.std.proofs.lemmas.Option.{slice_get-map, slice_get_within}
+use Rattle.std.proofs.lemmas.Option.{slice_get_within}
 use Rattle.lattice_core.specs.Order.{Order}
-use Rattle.lattice_core.specs.View.{LatticeView, orders_of}
 use Rattle.flow_graph.specs.System.{System}
 use Rattle.flow_graph.specs.Unfolding.{IsAccepted, IsAcceptedIn, IsExceeded}
 use Rattle.certificate_laws.specs.Certificates.{IsWritten}
@@ -23,10 +21,6 @@ some_order e = cc
 pub of_found : (Is : Part → Type 0) (found : Option Part) (part : Part) → found ≡ Some part → IfSome found Is → Is part
 of_found Is found part is said = subst (λ (f : Option Part). IfSome f Is) is said
 
-pub order_there : (lattices : List LatticeView) (n : ℕ) (view : LatticeView) → slice_get lattices n ≡ Some view
-    → slice_get (orders_of lattices) n ≡ Some view.order
-order_there lattices n view is = slice_get-map (λ (lattice : LatticeView). lattice.order) lattices n ∙ ap (option_map (λ (lattice : LatticeView). lattice.order)) is
-
 -- where a bound is exceeded, no assignment meets the unfolding at some depth
 pub exceeded_unmet : (sys : System) (lattice : ℕ) (order : Order) (n : ℕ) → IsExceeded sys lattice order n
     → IsAcceptedIn sys lattice order → ⊥
@@ -40,7 +34,8 @@ before_or_at : (xs : List Part) (x : Part) (n : ℕ) (y : Part) → slice_get (x
 before_or_at [] x zero y is = inr (refl, some_part is)
 before_or_at [] x (suc n) y is = absurd cc
 before_or_at (z ∷ xs) x zero y is = inl is
-before_or_at (z ∷ xs) x (suc n) y is = elim (before_or_at xs x n y is) [ inl before ↦ inl before | inr last ↦ inr (ap suc last.0, last.1) ]
+before_or_at (z ∷ xs) x (suc n) y is =
+    elim (before_or_at xs x n y is) [ inl before ↦ inl before | inr last ↦ inr (ap suc last.0, last.1) ]
 
 -- the first so many lattices have their certificates, and the program is accepted in them
 pub record AreFirst (sys : System) (orders : List Order) (count : ℕ) (parts : List Part) : Type 0 where
@@ -50,15 +45,21 @@ pub record AreFirst (sys : System) (orders : List Order) (count : ℕ) (parts : 
   pub accepted : (n : ℕ) (order : Order) → n < count → slice_get orders n ≡ Some order → IsAcceptedIn sys n order
 
 pub none_first : (sys : System) (orders : List Order) → AreFirst sys orders 0 []
-none_first sys orders = record { count_is = refl; each = λ n order part o p. absurd cc; accepted = λ n order below o. absurd (omega (arith, below)) }
+none_first sys orders = record {
+  count_is = refl;
+  each = λ n order part o p. absurd cc;
+  accepted = λ n order below o. absurd (omega (arith, below));
+}
 
-module _ (sys : System) (orders : List Order) (count : ℕ) (order : Order) (there : slice_get orders count ≡ Some order) where
+module _ (sys : System) (orders : List Order) (count : ℕ) (order : Order)
+    (there : slice_get orders count ≡ Some order) where
   -- and so have the first so many and one more
   pub next_first : (old new : List Part) (part : Part) → new ≡ old ++ part ∷ []
       → IsPart sys order part × IsWritten sys count (certificate_of part) → IsAcceptedIn sys count order →
       AreFirst sys orders count old → AreFirst sys orders (count + 1) new
   next_first old new part more own accepted first = record {
-    count_is = (let l = length-append old (part ∷ []) in let m : length new ≡ length (old ++ part ∷ []) = ap length more in let c = first.count_is in omega arith);
+    count_is = (let l = length-append old (part ∷ []) in
+        let m : length new ≡ length (old ++ part ∷ []) = ap length more in let c = first.count_is in omega arith);
     each = λ n o p o_there p_there.
         elim (before_or_at old part n p (sym (ap (λ (ps : List Part). slice_get ps n) more) ∙ p_there)) [
           | inl before ↦ first.each n o p o_there before
@@ -77,17 +78,17 @@ module _ (sys : System) (orders : List Order) (count : ℕ) (order : Order) (the
               let At : ℕ → Type 0 = λ k. IsAcceptedIn sys k order in
               let Of : Order → Type 0 = λ x. IsAcceptedIn sys n x in
               subst Of same (subst At (sym at) accepted)
-          | inr other ↦ elim other [ inl before ↦ first.accepted n o before o_there | inr past ↦ absurd (omega (arith, past, below)) ]
+          | inr other ↦ elim other
+              [ inl before ↦ first.accepted n o before o_there | inr past ↦ absurd (omega (arith, past, below)) ]
         ];
   }
 
-pub all_orders : (lattices : List LatticeView) → length (orders_of lattices) ≡ length lattices
-all_orders [] = refl
-all_orders (x ∷ xs) = ap suc (all_orders xs)
-
-module _ (sys : System) (orders : List Order) (count : ℕ) (parts : List Part) (all : length orders ≡ count) (first : AreFirst sys orders count parts) where
+module _ (sys : System) (orders : List Order) (count : ℕ) (parts : List Part) (all : length orders ≡ count)
+    (first : AreFirst sys orders count parts) where
   pub written_of_all : AreWritten sys orders parts
   written_of_all = record { as_many = first.count_is ∙ sym all; each = first.each }
 
   pub accepted_of_all : IsAccepted sys orders
-  accepted_of_all n order there = let within = slice_get_within orders n order there in first.accepted n order (omega (arith, within, all)) there
+  accepted_of_all n order there =
+      let within = slice_get_within orders n order there in
+      first.accepted n order (omega (arith, within, all)) there

@@ -2,6 +2,7 @@
 use Rattle.std.proofs.Common.{◌≡◌, ℕ, ◌<◌, ◌≤◌, ◌↔◌, inl, inr, true, false, List, sym, ◌∙◌, ap, subst, arith}
 use Rattle.std.specs.Int.{bit_at}
 use Rattle.std.proofs.lemmas.Bool.{cases_lt}
+use Rattle.qual_base.proofs.Lists.{place_of}
 use Rattle.lattice_core.specs.Order.{Order}
 use Rattle.flow_graph.specs.declared.constraint.Link.{Link}
 use Rattle.flow_graph.specs.declared.constraint.Link.TheVariants.{Le, Const, Enter, Leave}
@@ -14,7 +15,7 @@ use Rattle.closure_check.specs.Parts.{AreBelow, AreSets, has, is_among, is_in}
 use Rattle.closure_check.proofs.BitSets.{bit_of, none_past, of_bit}
 use Rattle.closure_check.proofs.Sorted.{among_item, among_place}
 use Rattle.certificate_maker.specs.Making.{AreJoined, AreSetsBy}
-use Rattle.certificate_maker.proofs.Adding.{contains_at, place_of}
+use Rattle.certificate_maker.proofs.Adding.{contains_at}
 
 has_of : (sys : System) (lattice n : ℕ) (link : Link) → Stands sys lattice n link → Has sys n link
 has_of sys lattice n link st = record { constraint = st.constraint; there = st.there; link_is = st.link_is }
@@ -29,14 +30,18 @@ module _ (sys : System) (lattice vars : ℕ) (below : AllBelow sys vars) where
     returning_below e v (start _ n st) = let low = link_below n (Const lattice e v) st in omega (arith, low)
     returning_below e v (flows u _ n p st) = let low = link_below n (Le u v) st in omega (arith, low)
     returning_below e v (returns u _ s n p st) = let low = link_below n (Leave s u v) st in omega (arith, low)
-    returning_below e v (grouped u a b _ s g n m p st q st2) = let low = link_below m (Leave s b v) st2 in omega (arith, low)
+    returning_below e v (grouped u a b _ s g n m p st q st2) =
+        let low = link_below m (Leave s b v) st2 in
+        omega (arith, low)
     returning_below e v (anew _ p is) = calling_below e v p
 
     calling_below : (e v : ℕ) → Calling sys lattice e v → v < vars
     calling_below e v (calls u _ s n p st) = let low = link_below n (Enter s u v) st in omega (arith, low)
     calling_below e v (calls_on u _ s n p st) = let low = link_below n (Enter s u v) st in omega (arith, low)
     calling_below e v (flows_on u _ n p st) = let low = link_below n (Le u v) st in omega (arith, low)
-    calling_below e v (grouped_on u a b _ s g n m p st q st2) = let low = link_below m (Leave s b v) st2 in omega (arith, low)
+    calling_below e v (grouped_on u a b _ s g n m p st q st2) =
+        let low = link_below m (Leave s b v) st2 in
+        omega (arith, low)
 
   lead_below : (e v : ℕ) → Lead sys lattice e v → v < vars
   lead_below e v (inl first) = returning_below e v first
@@ -44,7 +49,9 @@ module _ (sys : System) (lattice vars : ℕ) (below : AllBelow sys vars) where
 
   part_below : (f x v : ℕ) → Part sys lattice f x v → v < vars
   part_below f x v (flow _ _ _ n st is) = let low = link_below n (Le x v) st in omega (arith, low)
-  part_below f x v (group _ _ a b _ s g n m st q st2 is) = let low = link_below m (Leave s b v) st2 in omega (arith, low)
+  part_below f x v (group _ _ a b _ s g n m st q st2 is) =
+      let low = link_below m (Leave s b v) st2 in
+      omega (arith, low)
 
   end_below : (x : ℕ) → IsInnerEnd sys lattice x → x < vars
   end_below x end = let low = link_below end.0 (Enter end.1 end.2 x) end.3 in omega (arith, low)
@@ -62,22 +69,30 @@ module _ (sys : System) (lattice vars : ℕ) (below : AllBelow sys vars) where
   pairs_below pairs joined k p there = joined_below p.0 p.1 ((joined p.0 p.1).0 (contains_at pairs k p there))
 
   -- sets that have exactly what is led to variables, as the lists of a certificate
-  module _ (Leads : ℕ → ℕ → Type 0) (given : ℕ → ℕ) (sets : List ℕ) (made : AreSetsBy given vars sets) (leads : (e v : ℕ) → Leads e v → Lead sys lattice e v)
+  module _ (Leads : ℕ → ℕ → Type 0) (given : ℕ → ℕ) (sets : List ℕ) (made : AreSetsBy given vars sets)
+      (leads : (e v : ℕ) → Leads e v → Lead sys lattice e v)
       (exact : (v e : ℕ) → (bit_at (given v) e ≡ 1) ↔ Leads e v) where
     in_leads : (v e : ℕ) → is_in sets v e ≡ true → Leads e v
     in_leads v e is = elim (cases_lt v vars) [
       | inl low ↦ (exact v e).0 (bit_of (given v) e (ap (λ (set : ℕ). has set e) (sym (made.each v low)) ∙ is))
-      | inr high ↦ let wrong : true ≡ false = sym is ∙ none_past sets v e (omega (arith, high, made.size_is)) in absurd cc
+      | inr high ↦
+          let wrong : true ≡ false = sym is ∙ none_past sets v e (omega (arith, high, made.size_is)) in
+          absurd cc
     ]
 
     leads_in : (v e : ℕ) → Leads e v → is_in sets v e ≡ true
-    leads_in v e path = ap (λ (set : ℕ). has set e) (made.each v (lead_below e v (leads e v path))) ∙ of_bit (given v) e ((exact v e).1 path)
+    leads_in v e path =
+        ap (λ (set : ℕ). has set e) (made.each v (lead_below e v (leads e v path)))
+        ∙ of_bit (given v) e ((exact v e).1 path)
 
     pub sets_say : (v e : ℕ) → (is_in sets v e ≡ true) ↔ Leads e v
     sets_say v e = (in_leads v e, leads_in v e)
 
     pub sets_of : (order : Order) → NamesElementsIn sys lattice order → AreSets order vars sets
-    sets_of order named = record { size_is = made.size_is; elements = λ v e is. lead_element sys lattice order named e v (leads e v (in_leads v e is)) }
+    sets_of order named = record {
+      size_is = made.size_is;
+      elements = λ v e is. lead_element sys lattice order named e v (leads e v (in_leads v e is));
+    }
 
 -- the pairs as a certificate reads them
 pub pairs_say : (sys : System) (lattice : ℕ) (pairs : List (ℕ × ℕ)) → AreJoined sys lattice pairs → (x v : ℕ)

@@ -7,19 +7,12 @@ use Rattle.std.proofs.lemmas.List.Splits.{slice_split_at, slice_split_none, join
 use Rattle.std.specs.List.{slice_split, join_with_byte}
 use Rattle.std.specs.Str.{bytes_eq}
 use Rattle.std.specs.Fmt.{digits, digits_onto, digit_glyph}
+use Rattle.std.proofs.lemmas.Bool.{or_parts, or_from}
 use Rattle.path_checker.specs.Lines.{number_of, behind}
 use Rattle.certificate_text.specs.Text.{line}
 use Rattle.certificate_reader.specs.declared.lines.Line.TheVariants.{Other}
 use Rattle.certificate_reader.specs.Lines.{by_letter, end_in, set_kind, pair_kind, line_kind, lines_in, lines_of, words}
 use Rattle.certificate_reader.proofs.WordLemmas.{split_parts}
-
-both_false : (a b : Bool) → a ≡ false → b ≡ false → (a || b) ≡ false
-both_false true b p q = absurd cc
-both_false false b p q = q
-
-pub neither : (a b : Bool) → (a || b) ≡ false → (a ≡ false) × (b ≡ false)
-neither true b e = absurd cc
-neither false b e = (refl, e)
 
 module _ (c : ℕ) where
   abbrev pub has : List ℕ → Bool
@@ -29,13 +22,13 @@ module _ (c : ℕ) where
   pub lacks_append : (xs ys : List ℕ) → has xs ≡ false → has ys ≡ false → has (xs ++ ys) ≡ false
   lacks_append [] ys p q = q
   lacks_append (x ∷ xs) ys p q =
-      let parts = neither (x == c) (has xs) p in
-      both_false (x == c) (has (xs ++ ys)) parts.0 (lacks_append xs ys parts.1 q)
+      let parts = or_parts (x == c) (has xs) p in
+      or_from (x == c) (has (xs ++ ys)) parts.0 (lacks_append xs ys parts.1 q)
 
   pub all_lack : (text : List ℕ) → has text ≡ false → All (λ b. (b == c) ≡ false) text
   all_lack [] p = All-nil (λ b. (b == c) ≡ false)
   all_lack (b ∷ bs) p =
-      let parts = neither (b == c) (has bs) p in
+      let parts = or_parts (b == c) (has bs) p in
       All-cons (λ b. (b == c) ≡ false) b bs parts.0 (all_lack bs parts.1)
 
   glyph_lacks : (d : ℕ) → c < 48 → d < 10 → (digit_glyph false d == c) ≡ false
@@ -45,8 +38,10 @@ module _ (c : ℕ) where
   onto_lacks zero n acc low p = p
   onto_lacks (suc k) n acc low p =
       let small : n % 10 < 10 = omega arith in
-      let more : has (digit_glyph false (n % 10) ∷ acc) ≡ false = both_false _ (has acc) (glyph_lacks (n % 10) low small) p in
-      elim (n / 10 == 0) as (λ b. has (cond b (digit_glyph false (n % 10) ∷ acc) (digits_onto k 10 false (n / 10) (digit_glyph false (n % 10) ∷ acc))) ≡ false)
+      let more : has (digit_glyph false (n % 10) ∷ acc) ≡ false =
+      or_from _ (has acc) (glyph_lacks (n % 10) low small) p in
+      elim (n / 10 == 0) as (λ b. has (cond b (digit_glyph false (n % 10) ∷ acc)
+      (digits_onto k 10 false (n / 10) (digit_glyph false (n % 10) ∷ acc))) ≡ false)
       [ true ↦ more | false ↦ onto_lacks k (n / 10) (digit_glyph false (n % 10) ∷ acc) low more ]
 
   pub decimal_lacks : (n : ℕ) → c < 48 → has (decimal n) ≡ false
@@ -56,12 +51,14 @@ module _ (c : ℕ) where
 -- words that have no space, cut apart
 pub two_words : (a b : List ℕ) → has 32 a ≡ false → has 32 b ≡ false → words (a ++ 32 ∷ b) ≡ a ∷ b ∷ []
 two_words a b p q =
-    slice_split_at (λ c. c == 32) a 32 b (all_lack 32 a p) refl ∙ ap (λ (ws : List (List ℕ)). a ∷ ws) (slice_split_none (λ c. c == 32) b (all_lack 32 b q))
+    slice_split_at (λ c. c == 32) a 32 b (all_lack 32 a p) refl
+    ∙ ap (λ (ws : List (List ℕ)). a ∷ ws) (slice_split_none (λ c. c == 32) b (all_lack 32 b q))
 
 pub three_words : (a b c : List ℕ) → has 32 a ≡ false → has 32 b ≡ false → has 32 c ≡ false
     → words (a ++ 32 ∷ (b ++ 32 ∷ c)) ≡ a ∷ b ∷ c ∷ []
 three_words a b c p q r =
-    slice_split_at (λ d. d == 32) a 32 (b ++ 32 ∷ c) (all_lack 32 a p) refl ∙ ap (λ (ws : List (List ℕ)). a ∷ ws) (two_words b c q r)
+    slice_split_at (λ d. d == 32) a 32 (b ++ 32 ∷ c) (all_lack 32 a p) refl
+    ∙ ap (λ (ws : List (List ℕ)). a ∷ ws) (two_words b c q r)
 
 -- and joined
 pub joined : (bytes : List ℕ) (ws : List (List ℕ)) → words bytes ≡ ws → bytes ≡ join_with_byte 32 ws
@@ -72,7 +69,8 @@ pub first_part : (text part rest : List ℕ) → slice_split (λ b. b == 10) tex
     → text ≡ part ++ 10 ∷ rest
 first_part text part rest is =
     let more = split_parts (λ b. b == 10) rest in
-    sym (join_with_byte-slice_split 10 text) ∙ ap (join_with_byte 10) is ∙ ap (λ (ps : List (List ℕ)). join_with_byte 10 (part ∷ ps)) more.2
+    sym (join_with_byte-slice_split 10 text) ∙ ap (join_with_byte 10) is
+    ∙ ap (λ (ps : List (List ℕ)). join_with_byte 10 (part ∷ ps)) more.2
     ∙ ap (λ (ps : List (List ℕ)). part ++ 10 ∷ join_with_byte 10 ps) (sym more.2)
     ∙ ap (λ (bs : List ℕ). part ++ 10 ∷ bs) (join_with_byte-slice_split 10 rest)
 
@@ -92,7 +90,8 @@ lines_of-parts text part rest is =
 
 pub line_first : (x rest : List ℕ) → has 10 x ≡ false → lines_of (line x ++ rest) ≡ line_kind x ∷ lines_of rest
 line_first x rest free =
-    ap lines_of (append_assoc x (10 ∷ []) rest) ∙ lines_of-parts (x ++ 10 ∷ rest) x rest (slice_split_at (λ b. b == 10) x 10 rest (all_lack 10 x free) refl)
+    ap lines_of (append_assoc x (10 ∷ []) rest)
+    ∙ lines_of-parts (x ++ 10 ∷ rest) x rest (slice_split_at (λ b. b == 10) x 10 rest (all_lack 10 x free) refl)
 
 -- what stands behind the last line feed is no line that fits
 pub lines_of-whole : (text : List ℕ) → slice_split (λ b. b == 10) text ≡ text ∷ []

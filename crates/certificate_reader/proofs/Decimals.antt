@@ -25,7 +25,8 @@ pub append_behind : (v w : ℕ) (ds : List ℕ) (e : ℕ) → number_behind v ds
 append_behind v w [] e is digit = let same : v ≡ w = cc in rw (digit, same) refl
 append_behind v w (d ∷ ds) e is digit =
     (elim (is_ascii_digit d) as
-    (λ b. cond b (number_behind (10 * v + (d - 48)) ds) None ≡ Some w → cond b (number_behind (10 * v + (d - 48)) (ds ++ e ∷ [])) None ≡ Some (10 * w + (e - 48)))
+    (λ b. cond b (number_behind (10 * v + (d - 48)) ds) None ≡ Some w
+    → cond b (number_behind (10 * v + (d - 48)) (ds ++ e ∷ [])) None ≡ Some (10 * w + (e - 48)))
     [ true ↦ λ h. append_behind (10 * v + (d - 48)) w ds e h digit | false ↦ λ h. absurd cc ]) is
 
 -- a number below 10 is written by its one digit
@@ -59,7 +60,9 @@ more_digits n ds large w =
 is_read : (d : ℕ) (rest : List ℕ) → (rest ≡ []) ⊎ (48 < d) → number_of (d ∷ rest) ≡ number_behind 0 (d ∷ rest)
 is_read d [] alone = refl
 is_read d (e ∷ es) (inl is) = absurd cc
-is_read d (e ∷ es) (inr above) = let other : (d == 48) ≡ false = ne_eqb d 48 (λ same. omega (arith, above, same)) in rw other refl
+is_read d (e ∷ es) (inr above) =
+    let other : (d == 48) ≡ false = ne_eqb d 48 (λ same. omega (arith, above, same)) in
+    rw other refl
 
 -- the decimal digits of a number of 64 bits are read as it
 pub decimal_is_read : (n : ℕ) → n < 2 ^ 64 → number_of (decimal n) ≡ Some n
@@ -88,7 +91,16 @@ last_of : (ds : List ℕ) (v n d : ℕ) → number_behind v (d ∷ ds) ≡ Some 
 last_of [] v n d h = by_digit d n (Some (10 * v + (d - 48))) (is_ascii_digit d) refl h
     (λ digit is.
     let bounds = digit_bounds d digit in
-    record { front = []; digit = d; before = v; parts = refl; writes = refl; sum = cc; low = bounds.0; high = bounds.1 })
+    record {
+      front = [];
+      digit = d;
+      before = v;
+      parts = refl;
+      writes = refl;
+      sum = cc;
+      low = bounds.0;
+      high = bounds.1;
+    })
 last_of (e ∷ es) v n d h = by_digit d n (number_behind (10 * v + (d - 48)) (e ∷ es)) (is_ascii_digit d) refl h
     (λ digit is.
     let deeper = last_of es (10 * v + (d - 48)) n e is in

@@ -5,12 +5,13 @@ use Rattle.std.proofs.lemmas.List.Elements.{All-head, All-tail, All-append, All-
 use Rattle.std.proofs.lemmas.List.Splits.{slice_split_at, slice_split-cons_no}
 use Rattle.std.specs.List.{slice_split, onto_first}
 use Rattle.std.specs.Char.{is_ascii_digit}
+use Rattle.std.proofs.lemmas.Bool.{or_parts}
 use Rattle.path_checker.specs.Lines.{number_behind, number_of}
 use Rattle.certificate_reader.specs.declared.lines.Line.{Line}
 use Rattle.certificate_reader.specs.declared.lines.Line.TheVariants.{Set, Pair}
 use Rattle.certificate_reader.specs.Lines.{line_kind, words, by_letter, end_in, bits_of, set_kind, pair_kind}
 use Rattle.certificate_reader.specs.Fronts.{BeginsWith, EndsAt, BeginsWords, BeginsLine}
-use Rattle.certificate_reader.proofs.Bytes.{has, neither, lacks_append, all_lack, two_words, three_words, first_part, end_in-last}
+use Rattle.certificate_reader.proofs.Bytes.{has, lacks_append, all_lack, two_words, three_words, first_part, end_in-last}
 use Rattle.certificate_reader.proofs.Decimals.{append_behind}
 
 -- a word of bytes from the digit 0 on has none below
@@ -31,7 +32,8 @@ digit_more ds at n within is digit =
 -- what is taken of a text is a numeral
 pub numeral_taken : (text : List ℕ) (at n : ℕ) → number_behind 0 (take at text) ≡ Some n
     → All (λ b. 48 ≤ b) (take at text) →
-    number_of (take at text) ≡ number_behind 0 (take at text) → BeginsWith (λ word. number_of word) text n (take (length text - at) (drop at text))
+    number_of (take at text) ≡ number_behind 0 (take at text)
+    → BeginsWith (λ word. number_of word) text n (take (length text - at) (drop at text))
 numeral_taken text at n is bare numeral = record {
   word = take at text;
   parts = sym (ap (λ (xs : List ℕ). take at text ++ xs) (take_rest text at) ∙ take-append-drop at text);
@@ -54,7 +56,12 @@ name_taken text more rest n c end it letter above is = record {
 pub ends : (read : List ℕ → Option ℕ) (end : ℕ) (text more rest : List ℕ) (n : ℕ) → BeginsWith read text n more
     → more ≡ end ∷ rest → EndsAt read end text n rest
 ends read end text more rest n it is =
-    record { word = it.word; parts = it.parts ∙ ap (λ (xs : List ℕ). it.word ++ xs) is; read_is = it.read_is; bare = it.bare }
+    record {
+      word = it.word;
+      parts = it.parts ∙ ap (λ (xs : List ℕ). it.word ++ xs) is;
+      read_is = it.read_is;
+      bare = it.bare;
+    }
 
 bits_fit : (n : ℕ) → n < 2 ^ 64 → bits_of (Some n) ≡ Some n
 bits_fit n small = let yes : nat_lt n (2 ^ 64) ≡ true = grind (arith, small) in rw yes refl
@@ -63,22 +70,27 @@ module _ (text rest : List ℕ) where
   -- a name and two sets
   pub sets_front : (more last : List ℕ) (name first second : ℕ) → EndsAt (λ word. end_in word) 32 text name more
       → EndsAt (λ word. number_of word) 32 more first last →
-      EndsAt (λ word. number_of word) 10 last second rest → first < 2 ^ 64 → second < 2 ^ 64 → BeginsWords (λ words. set_kind words) text (Set name first second) rest
+      EndsAt (λ word. number_of word) 10 last second rest → first < 2 ^ 64 → second < 2 ^ 64
+      → BeginsWords (λ words. set_kind words) text (Set name first second) rest
   sets_front more last name first second one two three low also =
       let a = one.word in
       let b = two.word in
       let c = three.word in
       let part = a ++ 32 ∷ (b ++ 32 ∷ c) in
       let whole : text ≡ part ++ 10 ∷ rest =
-      one.parts ∙ ap (λ (xs : List ℕ). a ++ 32 ∷ xs) (two.parts ∙ ap (λ (xs : List ℕ). b ++ 32 ∷ xs) three.parts ∙ sym (append_assoc b (32 ∷ c) (10 ∷ rest)))
+      one.parts ∙ ap (λ (xs : List ℕ). a ++ 32 ∷ xs)
+      (two.parts ∙ ap (λ (xs : List ℕ). b ++ 32 ∷ xs) three.parts ∙ sym (append_assoc b (32 ∷ c) (10 ∷ rest)))
       ∙ sym (append_assoc a (32 ∷ (b ++ 32 ∷ c)) (10 ∷ rest)) in
       let bare : has 10 part ≡ false =
       lacks_append 10 a (32 ∷ (b ++ 32 ∷ c)) (bare_lacks 10 a (omega arith) one.bare)
-      (lacks_append 10 b (32 ∷ c) (bare_lacks 10 b (omega arith) two.bare) (bare_lacks 10 c (omega arith) three.bare)) in
+      (lacks_append 10 b (32 ∷ c) (bare_lacks 10 b (omega arith) two.bare)
+      (bare_lacks 10 c (omega arith) three.bare)) in
       record {
         part = part;
-        cut = ap (slice_split (λ b. b == 10)) whole ∙ slice_split_at (λ b. b == 10) part 10 rest (all_lack 10 part bare) refl;
-        kind_is = sym (ap set_kind (three_words a b c (bare_lacks 32 a (omega arith) one.bare) (bare_lacks 32 b (omega arith) two.bare) (bare_lacks 32 c (omega arith) three.bare))
+        cut = ap (slice_split (λ b. b == 10)) whole
+            ∙ slice_split_at (λ b. b == 10) part 10 rest (all_lack 10 part bare) refl;
+        kind_is = sym (ap set_kind (three_words a b c (bare_lacks 32 a (omega arith) one.bare)
+            (bare_lacks 32 b (omega arith) two.bare) (bare_lacks 32 c (omega arith) three.bare))
             ∙ rw (one.read_is, two.read_is, three.read_is, bits_fit first low, bits_fit second also) refl);
       }
 
@@ -92,11 +104,14 @@ module _ (text rest : List ℕ) where
       let part = a ++ 32 ∷ b in
       let whole : text ≡ part ++ 10 ∷ rest =
       one.parts ∙ ap (λ (xs : List ℕ). a ++ 32 ∷ xs) two.parts ∙ sym (append_assoc a (32 ∷ b) (10 ∷ rest)) in
-      let bare : has 10 part ≡ false = lacks_append 10 a (32 ∷ b) (bare_lacks 10 a (omega arith) one.bare) (bare_lacks 10 b (omega arith) two.bare) in
+      let bare : has 10 part ≡ false =
+      lacks_append 10 a (32 ∷ b) (bare_lacks 10 a (omega arith) one.bare) (bare_lacks 10 b (omega arith) two.bare) in
       record {
         part = part;
-        cut = ap (slice_split (λ b. b == 10)) whole ∙ slice_split_at (λ b. b == 10) part 10 rest (all_lack 10 part bare) refl;
-        kind_is = sym (ap pair_kind (two_words a b (bare_lacks 32 a (omega arith) one.bare) (bare_lacks 32 b (omega arith) two.bare)) ∙ rw (one.read_is, two.read_is) refl);
+        cut = ap (slice_split (λ b. b == 10)) whole
+            ∙ slice_split_at (λ b. b == 10) part 10 rest (all_lack 10 part bare) refl;
+        kind_is = sym (ap pair_kind (two_words a b (bare_lacks 32 a (omega arith) one.bare)
+            (bare_lacks 32 b (omega arith) two.bare)) ∙ rw (one.read_is, two.read_is) refl);
       }
 
 -- a word that lacks line feeds in front of a line
@@ -105,8 +120,9 @@ cut_behind : (word text part rest : List ℕ) → has 10 word ≡ false
     slice_split (λ b. b == 10) (word ++ text) ≡ (word ++ part) ∷ slice_split (λ b. b == 10) rest
 cut_behind [] text part rest bare cut = cut
 cut_behind (x ∷ xs) text part rest bare cut =
-    let both = neither (x == 10) (has 10 xs) bare in
-    slice_split-cons_no (λ b. b == 10) x (xs ++ text) both.0 ∙ ap (onto_first x) (cut_behind xs text part rest both.1 cut)
+    let both = or_parts (x == 10) (has 10 xs) bare in
+    slice_split-cons_no (λ b. b == 10) x (xs ++ text) both.0
+    ∙ ap (onto_first x) (cut_behind xs text part rest both.1 cut)
 
 -- what stands behind a line is shorter
 cut_shorter : (text part rest : List ℕ) → slice_split (λ b. b == 10) text ≡ part ∷ slice_split (λ b. b == 10) rest
@@ -123,7 +139,12 @@ pub line_begins : (word text more rest : List ℕ) (kind : Line) (kind_of : List
     → BeginsLine text kind rest
 line_begins word text more rest kind kind_of is bare reads it =
     let cut = ap (slice_split (λ b. b == 10)) is ∙ cut_behind word more it.part rest bare it.cut in
-    record { part = word ++ it.part; cut = cut; kind_is = it.kind_is ∙ sym (reads it.part); shorter = cut_shorter text (word ++ it.part) rest cut }
+    record {
+      part = word ++ it.part;
+      cut = cut;
+      kind_is = it.kind_is ∙ sym (reads it.part);
+      shorter = cut_shorter text (word ++ it.part) rest cut;
+    }
 
 -- what is so of what is found, where something else is
 pub if_some : {A : Type 0} (P Q : A → Type 0) (found : Option A) → ((x : A) → P x → Q x) → IfSome found P

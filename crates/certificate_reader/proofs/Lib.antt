@@ -1,6 +1,5 @@
 pub mod Numerals
 pub mod WordLemmas
-pub mod Places
 pub mod OneFault
 pub mod Shapes
 pub mod Placed

@@ -44,8 +44,10 @@ module _ (sys : System) (alls : List ℕ) where
     begins = rw follows it.begins;
     known = (known, it.known);
     none = λ below others passed.
-        it.none (omega (arith, below)) others (subst (λ (o : Option Section). passes_behind o (λ s. passes alls s (take (suc k) lines ++ others)) ≡ true) follows passed);
-    short = λ end passed. it.short (omega (arith, end)) (subst (λ (o : Option Section). passes_behind o (λ s. passes alls s lines) ≡ true) follows passed);
+        it.none (omega (arith, below)) others (subst (λ (o : Option Section). passes_behind o
+        (λ s. passes alls s (take (suc k) lines ++ others)) ≡ true) follows passed);
+    short = λ end passed. it.short (omega (arith, end))
+        (subst (λ (o : Option Section). passes_behind o (λ s. passes alls s lines) ≡ true) follows passed);
   }
 
   unknown_on : (section to : Section) (k : ℕ) (line : Line) (lines : List Line) → next alls section line ≡ Some to
@@ -63,8 +65,10 @@ module _ (sys : System) (alls : List ℕ) where
   placed_on : (section to : Section) (n : ℕ) (line : Line) (lines : List Line) (fault : CertFault)
       → next alls section line ≡ Some to → is_known sys line ≡ true →
       Placed to (n + 1) lines fault → Placed section n (line ∷ lines) fault
-  placed_on section to n line lines (Grammar m) follows known (k, is, it) = (suc k, omega (arith, is), misfits_on section to k line lines follows known it)
-  placed_on section to n line lines (NoSuchVariable m) follows known (k, is, it) = (suc k, omega (arith, is), unknown_on section to k line lines follows known it)
+  placed_on section to n line lines (Grammar m) follows known (k, is, it) =
+      (suc k, omega (arith, is), misfits_on section to k line lines follows known it)
+  placed_on section to n line lines (NoSuchVariable m) follows known (k, is, it) =
+      (suc k, omega (arith, is), unknown_on section to k line lines follows known it)
   placed_on section to n line lines NoMemory follows known it = tt
 
   -- no line stands before the fault
@@ -78,7 +82,9 @@ module _ (sys : System) (alls : List ℕ) where
         begins = done.1;
         known = tt;
         none = λ below others passed.
-            let wrong = subst (λ (o : Option Section). passes_behind o (λ s. passes alls s others) ≡ true) follows passed in absurd cc;
+            let wrong =
+            subst (λ (o : Option Section). passes_behind o (λ s. passes alls s others) ≡ true) follows passed in
+            absurd cc;
         short = λ end passed. omega (arith, end);
       }
 
@@ -93,14 +99,16 @@ module _ (sys : System) (alls : List ℕ) where
       → begun alls section ≤ length alls → next alls section line ≡ None →
       Grammar n ≡ fault → Placed section n (line ∷ lines) fault
   at_once section n line lines fault within follows is =
-      let placed : Placed section n (line ∷ lines) (Grammar n) = (0, omega arith, misfits_here section line lines within follows) in
+      let placed : Placed section n (line ∷ lines) (Grammar n) =
+      (0, omega arith, misfits_here section line lines within follows) in
       subst (λ (f : CertFault). Placed section n (line ∷ lines) f) is placed
 
   unnamed : (section to : Section) (n : ℕ) (line : Line) (lines : List Line) (fault : CertFault)
       → begun alls section ≤ length alls → next alls section line ≡ Some to →
       is_known sys line ≡ false → NoSuchVariable n ≡ fault → Placed section n (line ∷ lines) fault
   unnamed section to n line lines fault within follows unknown is =
-      let placed : Placed section n (line ∷ lines) (NoSuchVariable n) = (0, omega arith, unknown_here section to line lines within follows unknown) in
+      let placed : Placed section n (line ∷ lines) (NoSuchVariable n) =
+      (0, omega arith, unknown_here section to line lines within follows unknown) in
       subst (λ (f : CertFault). Placed section n (line ∷ lines) f) is placed
 
   at_end : (section : Section) (n : ℕ) (fault : CertFault) (b : Bool) → begun alls section ≤ length alls
@@ -127,28 +135,38 @@ module _ (sys : System) (alls : List ℕ) where
   by_name : (section to : Section) (n : ℕ) (line : Line) (lines : List Line) (fault : CertFault) (b : Bool)
       → begun alls section ≤ length alls → next alls section line ≡ Some to →
       is_known sys line ≡ b → (fault_from sys alls to (n + 1) lines ≡ Some fault → Placed to (n + 1) lines fault) →
-      cond b (fault_from sys alls to (n + 1) lines) (Some (NoSuchVariable n)) ≡ Some fault → Placed section n (line ∷ lines) fault
-  by_name section to n line lines fault true within follows known deeper h = placed_on section to n line lines fault follows known (deeper h)
-  by_name section to n line lines fault false within follows unknown deeper h = unnamed section to n line lines fault within follows unknown cc
+      cond b (fault_from sys alls to (n + 1) lines) (Some (NoSuchVariable n)) ≡ Some fault
+      → Placed section n (line ∷ lines) fault
+  by_name section to n line lines fault true within follows known deeper h =
+      placed_on section to n line lines fault follows known (deeper h)
+  by_name section to n line lines fault false within follows unknown deeper h =
+      unnamed section to n line lines fault within follows unknown cc
 
   by_section : (section : Section) (n : ℕ) (line : Line) (lines : List Line) (fault : CertFault) (o : Option Section)
       → begun alls section ≤ length alls → next alls section line ≡ o →
-      ((to : Section) → begun alls to ≤ length alls → fault_from sys alls to (n + 1) lines ≡ Some fault → Placed to (n + 1) lines fault) →
-      fault_behind sys n line o (λ s. fault_from sys alls s (n + 1) lines) ≡ Some fault → Placed section n (line ∷ lines) fault
-  by_section section n line lines fault None within follows deeper h = at_once section n line lines fault within follows cc
+      ((to : Section) → begun alls to ≤ length alls → fault_from sys alls to (n + 1) lines ≡ Some fault
+      → Placed to (n + 1) lines fault) →
+      fault_behind sys n line o (λ s. fault_from sys alls s (n + 1) lines) ≡ Some fault
+      → Placed section n (line ∷ lines) fault
+  by_section section n line lines fault None within follows deeper h =
+      at_once section n line lines fault within follows cc
   by_section section n line lines fault (Some to) within follows deeper h =
-      by_name section to n line lines fault (is_known sys line) within follows refl (deeper to (begun_behind alls section to line within follows)) h
+      by_name section to n line lines fault (is_known sys line) within follows refl
+      (deeper to (begun_behind alls section to line within follows)) h
 
   placed : (lines : List Line) (section : Section) (n : ℕ) (fault : CertFault) → begun alls section ≤ length alls
       → fault_from sys alls section n lines ≡ Some fault →
       Placed section n lines fault
   placed [] section n fault within h = at_end section n fault (may_end alls section) within refl h
   placed (line ∷ lines) section n fault within h =
-      by_section section n line lines fault (next alls section line) within refl (λ to more. placed lines to (n + 1) fault more) h
+      by_section section n line lines fault (next alls section line) within refl
+      (λ to more. placed lines to (n + 1) fault more) h
 
 module _ (sys : System) (orders : List Order) where
   pub shaped_of : (lines : List Line) → passes (alls_of orders) Start lines ≡ true → IsShaped orders lines
-  shaped_of lines passed = let left = left_of (alls_of orders) lines Start passed in record { parts = left.0; fit = left.2; lines_are = left.1 }
+  shaped_of lines passed =
+      let left = left_of (alls_of orders) lines Start passed in
+      record { parts = left.0; fit = left.2; lines_are = left.1 }
 
   pub of_shaped : (lines : List Line) → IsShaped orders lines → passes (alls_of orders) Start lines ≡ true
   of_shaped lines shaped = rw shaped.lines_are (parts_are_passed (alls_of orders) shaped.parts shaped.fit)

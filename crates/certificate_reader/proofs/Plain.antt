@@ -1,7 +1,7 @@
 -- The text of certificates has the lines of them, and each names variables.
-use Rattle.std.proofs.Common.{◌≡◌, ℕ, zero, suc, ◌+◌, ◌-◌, ◌/◌, ◌%◌, ◌^◌, ◌<◌, ◌≤◌, ◌==◌, ◌&&◌, Bool, true, false, nat_lt, List, [], ◌∷◌, ◌++◌, length, map, slice_get, slice_index, Option, Some, None, refl, sym, ◌∙◌, ap, subst, arith, cond, inl, inr, pow_mono}
+use Rattle.std.proofs.Common.{◌≡◌, ℕ, zero, suc, ◌+◌, ◌-◌, ◌/◌, ◌%◌, ◌^◌, ◌<◌, ◌≤◌, ◌==◌, Bool, true, false, nat_lt, List, [], ◌∷◌, ◌++◌, length, map, slice_get, slice_index, Option, Some, None, refl, sym, ◌∙◌, ap, subst, arith, cond, inl, inr, pow_mono}
 use Rattle.std.specs.Int.{bit_at}
-use Rattle.std.proofs.lemmas.Bool.{cases_lt}
+use Rattle.std.proofs.lemmas.Bool.{cases_lt, and_from}
 use Rattle.std.proofs.lemmas.Nat.{div-add-mod', pow_pos}
 use Rattle.std.proofs.Math.Nat.{mod-lt}
 use Rattle.std.proofs.lemmas.Nat.Bits.{bit_at-lt, bit_at_above, bit_at_cat_low, same_from_bits}
@@ -27,8 +27,10 @@ use Rattle.certificate_reader.proofs.Spelled.{most_names, IsSmall, AreSmallSets,
 -- a set of elements below a number is below its power of two
 bits_same : (set k : ℕ) → ((e : ℕ) → has set e ≡ true → e < k) → (e : ℕ) → bit_at (set % 2 ^ k) e ≡ bit_at set e
 bits_same set k low e = elim (cases_lt e k) [
-  | inl here ↦ sym (bit_at_cat_low (set / 2 ^ k) k (set % 2 ^ k) e here) ∙ ap (λ (n : ℕ). bit_at n e) (div-add-mod' set (2 ^ k))
-  | inr above ↦ bit_at_above (set % 2 ^ k) k e (mod-lt set (pow_pos k)) above ∙ sym (none above (bit_at set e) refl (bit_at-lt set e))
+  | inl here ↦ sym (bit_at_cat_low (set / 2 ^ k) k (set % 2 ^ k) e here)
+      ∙ ap (λ (n : ℕ). bit_at n e) (div-add-mod' set (2 ^ k))
+  | inr above ↦ bit_at_above (set % 2 ^ k) k e (mod-lt set (pow_pos k)) above
+      ∙ sym (none above (bit_at set e) refl (bit_at-lt set e))
 ]
   where
     none : k ≤ e → (b : ℕ) → bit_at set e ≡ b → b < 2 → bit_at set e ≡ 0
@@ -37,13 +39,15 @@ bits_same set k low e = elim (cases_lt e k) [
     none above (suc (suc b)) is small = absurd (omega (arith, small))
 
 pub below_power : (set k : ℕ) → ((e : ℕ) → has set e ≡ true → e < k) → set < 2 ^ k
-below_power set k low = subst (λ (n : ℕ). n < 2 ^ k) (same_from_bits (set % 2 ^ k) set (bits_same set k low)) (mod-lt set (pow_pos k))
+below_power set k low =
+    subst (λ (n : ℕ). n < 2 ^ k) (same_from_bits (set % 2 ^ k) set (bits_same set k low)) (mod-lt set (pow_pos k))
 
 -- the sets of a line are those of a variable among names
 pub record IsSetOf (part : Part) (names : List Named) (it : SetLine) : Type 0 where
   pub x : Named
   pub there : Among x names
-  pub is : it ≡ record { name = x.name; first = slice_index part.first.items x.var; second = slice_index part.second.items x.var }
+  pub is : it ≡
+      record { name = x.name; first = slice_index part.first.items x.var; second = slice_index part.second.items x.var }
   pub some : (slice_index part.second.items x.var == 0) ≡ false
 
 -- a set line of a part has a name of the list and that variable's sets, the second of which is not empty
@@ -51,11 +55,17 @@ pub set_from : (part : Part) (names : List Named) (it : SetLine) → Among it (s
 set_from part [] it there = absurd there
 set_from part (x ∷ names) it there = elim (among_either (set_of part x) (sets_of part names) it there) [
   | inl here ↦ now (slice_index part.second.items x.var == 0) refl here
-  | inr later ↦ let deeper = set_from part names it later in record { x = deeper.x; there = inr deeper.there; is = deeper.is; some = deeper.some }
+  | inr later ↦
+      let deeper = set_from part names it later in
+      record { x = deeper.x; there = inr deeper.there; is = deeper.is; some = deeper.some }
 ]
   where
     now : (b : Bool) → (slice_index part.second.items x.var == 0) ≡ b →
-        Among it (cond b [] (record { name = x.name; first = slice_index part.first.items x.var; second = slice_index part.second.items x.var } ∷ [])) → IsSetOf part (x ∷ names) it
+        Among it (cond b [] (record {
+          name = x.name;
+          first = slice_index part.first.items x.var;
+          second = slice_index part.second.items x.var;
+        } ∷ [])) → IsSetOf part (x ∷ names) it
     now true none there = absurd there
     now false some (inl is) = record { x = x; there = inl refl; is = is; some = some }
     now false some (inr there) = absurd there
@@ -63,17 +73,30 @@ set_from part (x ∷ names) it there = elim (among_either (set_of part x) (sets_
 -- a named variable whose second set is not empty has its line among the set lines of the part
 pub set_to : (part : Part) (names : List Named) (x : Named) → Among x names
     → (slice_index part.second.items x.var == 0) ≡ false →
-    Among {A = SetLine} (record { name = x.name; first = slice_index part.first.items x.var; second = slice_index part.second.items x.var }) (sets_of part names)
+    Among {A = SetLine}
+    (record { name = x.name; first = slice_index part.first.items x.var; second = slice_index part.second.items x.var })
+    (sets_of part names)
 set_to part [] x there some = absurd there
 set_to part (y ∷ names) x (inl same) some = among_left (set_of part y) (sets_of part names) _
-    (subst (λ (z : Named). Among {A = SetLine} (record { name = x.name; first = slice_index part.first.items x.var; second = slice_index part.second.items x.var }) (set_of part z)) same (own (slice_index part.second.items x.var == 0) some))
+    (subst (λ (z : Named). Among {A = SetLine}
+    (record { name = x.name; first = slice_index part.first.items x.var; second = slice_index part.second.items x.var })
+    (set_of part z)) same (own (slice_index part.second.items x.var == 0) some))
   where
     own : (b : Bool) → b ≡ false →
-        Among {A = SetLine} (record { name = x.name; first = slice_index part.first.items x.var; second = slice_index part.second.items x.var })
-        (cond b [] (record { name = x.name; first = slice_index part.first.items x.var; second = slice_index part.second.items x.var } ∷ []))
+        Among {A = SetLine} (record {
+          name = x.name;
+          first = slice_index part.first.items x.var;
+          second = slice_index part.second.items x.var;
+        })
+        (cond b [] (record {
+          name = x.name;
+          first = slice_index part.first.items x.var;
+          second = slice_index part.second.items x.var;
+        } ∷ []))
     own true e = absurd cc
     own false e = inl refl
-set_to part (y ∷ names) x (inr later) some = among_right (set_of part y) (sets_of part names) _ (set_to part names x later some)
+set_to part (y ∷ names) x (inr later) some =
+    among_right (set_of part y) (sets_of part names) _ (set_to part names x later some)
 
 -- sets below a power fit
 fits_below : (p first second : ℕ) → first < p → second < p → (second == 0) ≡ false
@@ -88,8 +111,10 @@ behind_low last name low = grind (arith, low)
 
 -- the sets of names in order fit
 sets_fit_of : (all : ℕ) (part : Part) (names : List Named) (last : Option ℕ)
-    → ((v : ℕ) → (slice_index part.second.items v == 0) ≡ false → sets_fit all (slice_index part.first.items v) (slice_index part.second.items v) ≡ true) →
-    Rises Lower names → ((x : Named) → Among x names → name_behind last x.name ≡ true) → SetsFit all last (sets_of part names)
+    → ((v : ℕ) → (slice_index part.second.items v == 0) ≡ false
+    → sets_fit all (slice_index part.first.items v) (slice_index part.second.items v) ≡ true) →
+    Rises Lower names → ((x : Named) → Among x names → name_behind last x.name ≡ true)
+    → SetsFit all last (sets_of part names)
 sets_fit_of all part [] last fits rise later = tt
 sets_fit_of all part (x ∷ names) last fits rise later = by_test (slice_index part.second.items x.var == 0) refl
     (sets_fit_of all part names last fits rise.1 (λ y there. later y (inr there)))
@@ -97,14 +122,19 @@ sets_fit_of all part (x ∷ names) last fits rise later = by_test (slice_index p
   where
     by_test : (b : Bool) → (slice_index part.second.items x.var == 0) ≡ b → SetsFit all last (sets_of part names)
         → SetsFit all (Some x.name) (sets_of part names) →
-        SetsFit all last (cond b [] (record { name = x.name; first = slice_index part.first.items x.var; second = slice_index part.second.items x.var } ∷ []) ++ sets_of part names)
+        SetsFit all last (cond b [] (record {
+          name = x.name;
+          first = slice_index part.first.items x.var;
+          second = slice_index part.second.items x.var;
+        } ∷ []) ++ sets_of part names)
     by_test true none over behind = over
     by_test false some over behind = (later x (inl refl), fits x.var some, behind)
 
 pairs_fit_of : (ps : List (ℕ × ℕ)) (last : Option (ℕ × ℕ)) → Rises Earlier ps
     → ((p : ℕ × ℕ) → Among p ps → pair_behind last p ≡ true) → PairsFit last ps
 pairs_fit_of [] last rise later = tt
-pairs_fit_of (p ∷ ps) last rise later = (later p (inl refl), pairs_fit_of ps (Some p) rise.1 (λ q there. before_to p q.0 q.1 (rise.0 q there)))
+pairs_fit_of (p ∷ ps) last rise later =
+    (later p (inl refl), pairs_fit_of ps (Some p) rise.1 (λ q there. before_to p q.0 q.1 (rise.0 q there)))
 
 own_end : (n : ℕ) → (n == n) ≡ true
 own_end n = grind arith
@@ -158,41 +188,44 @@ module _ (sys : System) where
       → ((it : SetLine) → Among it sets → is_name sys it.name ≡ true) → AreKnown sys behind
       → AreKnown sys (set_lines sets behind)
   sets_known [] behind named rest = rest
-  sets_known (it ∷ sets) behind named rest = (named it (inl refl), sets_known sets behind (λ other there. named other (inr there)) rest)
-
-  both : (a b : Bool) → a ≡ true → b ≡ true → (a && b) ≡ true
-  both true true p q = refl
-  both true false p q = absurd cc
-  both false b p q = absurd cc
+  sets_known (it ∷ sets) behind named rest =
+      (named it (inl refl), sets_known sets behind (λ other there. named other (inr there)) rest)
 
   pairs_known : (pairs : List (ℕ × ℕ)) (behind : List Line)
       → ((p : ℕ × ℕ) → Among p pairs → (is_name sys p.0 ≡ true) × (is_name sys p.1 ≡ true)) → AreKnown sys behind →
       AreKnown sys (pair_lines pairs behind)
   pairs_known [] behind named rest = rest
   pairs_known (pair ∷ pairs) behind named rest =
-      let it = named pair (inl refl) in
-      (both (is_name sys pair.0) (is_name sys pair.1) it.0 it.1, pairs_known pairs behind (λ other there. named other (inr there)) rest)
+      let it = named pair (inl refl) in (
+        and_from (is_name sys pair.0) (is_name sys pair.1) it.0 it.1,
+        pairs_known pairs behind (λ other there. named other (inr there)) rest,
+      )
 
   small_pairs : (pairs : List (ℕ × ℕ)) → ((p : ℕ × ℕ) → Among p pairs → (p.0 < most_names) × (p.1 < most_names))
       → AreSmallPairs pairs
   small_pairs [] small = tt
-  small_pairs (pair ∷ pairs) small = let it = small pair (inl refl) in (it.0, it.1, small_pairs pairs (λ other there. small other (inr there)))
+  small_pairs (pair ∷ pairs) small =
+      let it = small pair (inl refl) in
+      (it.0, it.1, small_pairs pairs (λ other there. small other (inr there)))
 
   small_sets : (sets : List SetLine) → ((it : SetLine) → Among it sets → IsSmall it) → AreSmallSets sets
   small_sets [] small = tt
   small_sets (it ∷ sets) small = (small it (inl refl), small_sets sets (λ other there. small other (inr there)))
 
   -- the certificate of a lattice
-  module _ (few : length sys.constraints ≤ most_constraints) (order : Order) (part : Part) (is : IsPart sys order part) (fits : size order ≤ 64) where
+  module _ (few : length sys.constraints ≤ most_constraints) (order : Order) (part : Part) (is : IsPart sys order part)
+      (fits : size order ≤ 64) where
     firsts_below : (v : ℕ) → slice_index part.first.items v < 2 ^ size order
     firsts_below v = below_power (slice_index part.first.items v) (size order) (λ e there. is.firsts.elements v e there)
 
     seconds_below : (v : ℕ) → slice_index part.second.items v < 2 ^ size order
-    seconds_below v = below_power (slice_index part.second.items v) (size order) (λ e there. is.seconds.elements v e there)
+    seconds_below v =
+        below_power (slice_index part.second.items v) (size order) (λ e there. is.seconds.elements v e there)
 
     part_sets_fit : SetsFit (all_of order) None (sets_of part (names_in sys))
     part_sets_fit = sets_fit_of (all_of order) part (names_in sys) None
-        (λ v some. fits_below (2 ^ size order) (slice_index part.first.items v) (slice_index part.second.items v) (firsts_below v) (seconds_below v) some)
+        (λ v some. fits_below (2 ^ size order) (slice_index part.first.items v) (slice_index part.second.items v)
+        (firsts_below v) (seconds_below v) some)
         (names_rise sys (ends_in sys) 0) (λ x there. refl)
 
     part_pairs_fit : PairsFit None (pairs_of part.pairs.items (names_in sys) (names_in sys))
@@ -206,8 +239,10 @@ module _ (sys : System) where
         let wide = pow_mono fits in
         record {
           name = small_name it.name few (set_named part it there);
-          first = subst (λ (s : SetLine). s.first < 2 ^ 64) (sym from.is) (omega (arith, firsts_below from.x.var, wide));
-          second = subst (λ (s : SetLine). s.second < 2 ^ 64) (sym from.is) (omega (arith, seconds_below from.x.var, wide));
+          first =
+              subst (λ (s : SetLine). s.first < 2 ^ 64) (sym from.is) (omega (arith, firsts_below from.x.var, wide));
+          second =
+              subst (λ (s : SetLine). s.second < 2 ^ 64) (sym from.is) (omega (arith, seconds_below from.x.var, wide));
         }
 
     part_sets_small : AreSmallSets (sets_of part (names_in sys))
@@ -218,8 +253,11 @@ module _ (sys : System) where
         (λ p there. let named = pair_named part p there in (small_name p.0 few named.0, small_name p.1 few named.1))
 
     part_known : (behind : List Line) → AreKnown sys behind
-        → AreKnown sys (set_lines (sets_of part (names_in sys)) (pair_lines (pairs_of part.pairs.items (names_in sys) (names_in sys)) behind))
-    part_known behind rest = sets_known (sets_of part (names_in sys)) _ (set_named part) (pairs_known (pairs_of part.pairs.items (names_in sys) (names_in sys)) behind (pair_named part) rest)
+        → AreKnown sys (set_lines (sets_of part (names_in sys))
+        (pair_lines (pairs_of part.pairs.items (names_in sys) (names_in sys)) behind))
+    part_known behind rest =
+        sets_known (sets_of part (names_in sys)) _ (set_named part)
+        (pairs_known (pairs_of part.pairs.items (names_in sys) (names_in sys)) behind (pair_named part) rest)
 
   abbrev pub AreFew : List Order → Type 0
   AreFew orders = (n : ℕ) (order : Order) → slice_get orders n ≡ Some order → size order ≤ 64
@@ -258,7 +296,8 @@ module _ (sys : System) where
     parts_known (order ∷ orders) [] number fits plain = absurd plain
     parts_known (order ∷ orders) (part ∷ parts) number fits plain = (
       refl,
-      part_known few order part plain.0 (fits 0 order refl) _ (parts_known orders parts (number + 1) (λ n other there. fits (suc n) other there) plain.2),
+      part_known few order part plain.0 (fits 0 order refl) _
+          (parts_known orders parts (number + 1) (λ n other there. fits (suc n) other there) plain.2),
     )
 
     as_many : (orders : List Order) (parts : List Part) → ArePlain sys orders parts
@@ -268,15 +307,23 @@ module _ (sys : System) where
     as_many (order ∷ orders) [] plain = absurd plain
     as_many (order ∷ orders) (part ∷ parts) plain = ap suc (as_many orders parts plain.2)
 
-  module _ (orders : List Order) (bytes : List ℕ) (parts : List Part) (bounded : IsBounded sys orders) (reads : ReadsAs sys orders bytes parts) where
+  module _ (orders : List Order) (bytes : List ℕ) (parts : List Part) (bounded : IsBounded sys orders)
+      (reads : ReadsAs sys orders bytes parts) where
     -- the lines of a text are those of the certificates that it reads as
     pub read_lines : lines_of bytes ≡ lines_of_parts (writtens parts)
     read_lines =
         let many = as_many bounded.constraints orders parts reads.1 in
-        ap lines_of reads.0 ∙ text_lines (writtens parts) (parts_small bounded.constraints orders parts bounded.elements reads.1) (omega (arith, many, bounded.lattices))
+        ap lines_of reads.0 ∙ text_lines (writtens parts)
+        (parts_small bounded.constraints orders parts bounded.elements reads.1) (omega (arith, many, bounded.lattices))
 
     pub read_shaped : IsShaped orders (lines_of bytes)
-    read_shaped = record { parts = writtens parts; fit = parts_fit bounded.constraints orders parts bounded.elements reads.1; lines_are = read_lines }
+    read_shaped = record {
+      parts = writtens parts;
+      fit = parts_fit bounded.constraints orders parts bounded.elements reads.1;
+      lines_are = read_lines;
+    }
 
     pub read_known : AreKnown sys (lines_of bytes)
-    read_known = subst (λ (ls : List Line). AreKnown sys ls) (sym read_lines) (refl, parts_known bounded.constraints orders parts 1 bounded.elements reads.1)
+    read_known =
+        subst (λ (ls : List Line). AreKnown sys ls) (sym read_lines)
+        (refl, parts_known bounded.constraints orders parts 1 bounded.elements reads.1)

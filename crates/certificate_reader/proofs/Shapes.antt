@@ -3,6 +3,7 @@ use Rattle.std.proofs.Common.{◌≡◌, ℕ, ◌+◌, ◌-◌, ◌<◌, ◌≤�
 use Rattle.std.proofs.lemmas.Bool.{cases_lt}
 use Rattle.std.proofs.lemmas.List.{drop_all}
 use Rattle.std.proofs.Common.{drop-cons, add-one}
+use Rattle.qual_base.proofs.Tests.{below_is, is_below}
 use Rattle.certificate_text.specs.declared.putting.SetLine.{SetLine}
 use Rattle.certificate_text.specs.Text.{Written}
 use Rattle.certificate_reader.specs.declared.lines.Line.{Line}
@@ -30,14 +31,8 @@ both_true false b h then_ = absurd cc
 same_number : (n k : ℕ) → (n == k) ≡ true → n ≡ k
 same_number n k h = grind (arith, h)
 
-is_low : (k n : ℕ) → nat_lt k n ≡ true → k < n
-is_low k n h = grind (arith, h)
-
 number_same : (n : ℕ) → (n == n) ≡ true
 number_same n = grind arith
-
-low_is : (k n : ℕ) → k < n → nat_lt k n ≡ true
-low_is k n h = grind (arith, h)
 
 module _ (alls : List ℕ) where
   -- what is left of certificates in a section
@@ -79,7 +74,8 @@ module _ (alls : List ℕ) where
   lattices_from k low = drop-cons alls k 0 low ∙ ap (λ (j : ℕ). slice_index alls k ∷ drop j alls) (sym (add-one k))
 
   parts_in_pairs : (k : ℕ) (last : Option (ℕ × ℕ)) (lines : List Line) → PartsLeft k lines → PairsLeft k last lines
-  parts_in_pairs k last lines left = record { pairs = []; parts = left.parts; lines_are = left.lines_are; pairs_fit = tt; fit = left.fit }
+  parts_in_pairs k last lines left =
+      record { pairs = []; parts = left.parts; lines_are = left.lines_are; pairs_fit = tt; fit = left.fit }
 
   pairs_in_sets : (k : ℕ) (last : Option ℕ) (lines : List Line) → PairsLeft k None lines → SetsLeft k last lines
   pairs_in_sets k last lines left = record {
@@ -100,13 +96,18 @@ module _ (alls : List ℕ) where
       record {
         parts = record { sets = left.sets; pairs = left.pairs } ∷ left.parts;
         lines_are = ap (λ (ls : List Line). Lattice n ∷ ls) left.lines_are
-            ∙ ap (λ (j : ℕ). Lattice j ∷ set_lines left.sets (pair_lines left.pairs (part_lines (j + 1) left.parts []))) same;
-        fit = rw (lattices_from k low)
-            (subst (λ (j : ℕ). SetsFit (slice_index alls j) None left.sets) less left.sets_fit, left.pairs_fit, subst (λ (j : ℕ). PartsFit (drop j alls) left.parts) same left.fit);
+            ∙ ap (λ (j : ℕ). Lattice j
+            ∷ set_lines left.sets (pair_lines left.pairs (part_lines (j + 1) left.parts []))) same;
+        fit = rw (lattices_from k low) (
+          subst (λ (j : ℕ). SetsFit (slice_index alls j) None left.sets) less left.sets_fit,
+          left.pairs_fit,
+          subst (λ (j : ℕ). PartsFit (drop j alls) left.parts) same left.fit,
+        );
       }
 
   set_goes_on : (k : ℕ) (last : Option ℕ) (name first second : ℕ) (lines : List Line) → name_behind last name ≡ true →
-      sets_fit (slice_index alls (k - 1)) first second ≡ true → SetsLeft k (Some name) lines → SetsLeft k last (Set name first second ∷ lines)
+      sets_fit (slice_index alls (k - 1)) first second ≡ true → SetsLeft k (Some name) lines
+      → SetsLeft k last (Set name first second ∷ lines)
   set_goes_on k last name first second lines later fits left = record {
     sets = record { name = name; first = first; second = second } ∷ left.sets;
     pairs = left.pairs;
@@ -135,20 +136,25 @@ module _ (alls : List ℕ) where
   by_test section behind false h then_ = absurd cc
 
   by_lattice : (k n : ℕ) (lines : List Line)
-      → passes_behind (cond ((n == k + 1) && nat_lt k (length alls)) (Some (InSets n None)) None) (λ s. passes alls s lines) ≡ true →
+      → passes_behind (cond ((n == k + 1) && nat_lt k (length alls)) (Some (InSets n None)) None)
+      (λ s. passes alls s lines) ≡ true →
       (passes alls (InSets n None) lines ≡ true → SetsLeft n None lines) → PartsLeft k (Lattice n ∷ lines)
-  by_lattice k n lines h deeper = by_test (InSets n None) (λ s. passes alls s lines) ((n == k + 1) && nat_lt k (length alls)) h
+  by_lattice k n lines h deeper =
+      by_test (InSets n None) (λ s. passes alls s lines) ((n == k + 1) && nat_lt k (length alls)) h
       (λ test more. both_true (n == k + 1) (nat_lt k (length alls)) test
-      (λ same low. part_opens k n lines (same_number n (k + 1) same) (is_low k (length alls) low) (deeper more)))
+      (λ same low. part_opens k n lines (same_number n (k + 1) same) (below_is k (length alls) low) (deeper more)))
 
   -- lines that pass are those that are left of certificates
   pub left_of : (lines : List Line) (section : Section) → passes alls section lines ≡ true → Left section lines
   left_of [] Start h = absurd cc
   left_of [] Opened h = record { parts = []; lines_are = refl; fit = none_left 0 h }
-  left_of [] (InSets k last) h = record { sets = []; pairs = []; parts = []; lines_are = refl; sets_fit = tt; pairs_fit = tt; fit = none_left k h }
-  left_of [] (InPairs k u v) h = record { pairs = []; parts = []; lines_are = refl; pairs_fit = tt; fit = none_left k h }
+  left_of [] (InSets k last) h =
+      record { sets = []; pairs = []; parts = []; lines_are = refl; sets_fit = tt; pairs_fit = tt; fit = none_left k h }
+  left_of [] (InPairs k u v) h =
+      record { pairs = []; parts = []; lines_are = refl; pairs_fit = tt; fit = none_left k h }
   left_of (Certificate ∷ lines) Start h =
-      let left = left_of lines Opened h in (left.parts, ap (λ (ls : List Line). Certificate ∷ ls) left.lines_are, left.fit)
+      let left = left_of lines Opened h in
+      (left.parts, ap (λ (ls : List Line). Certificate ∷ ls) left.lines_are, left.fit)
   left_of (Lattice n ∷ lines) Start h = absurd cc
   left_of (Set name first second ∷ lines) Start h = absurd cc
   left_of (Pair from to ∷ lines) Start h = absurd cc
@@ -162,14 +168,16 @@ module _ (alls : List ℕ) where
   left_of (Lattice n ∷ lines) (InSets k last) h =
       pairs_in_sets k last _ (parts_in_pairs k None _ (by_lattice k n lines h (left_of lines (InSets n None))))
   left_of (Set name first second ∷ lines) (InSets k last) h =
-      by_test (InSets k (Some name)) (λ s. passes alls s lines) (name_behind last name && sets_fit (slice_index alls (k - 1)) first second) h
+      by_test (InSets k (Some name)) (λ s. passes alls s lines)
+      (name_behind last name && sets_fit (slice_index alls (k - 1)) first second) h
       (λ test more. both_true (name_behind last name) (sets_fit (slice_index alls (k - 1)) first second) test
       (λ later fits. set_goes_on k last name first second lines later fits (left_of lines (InSets k (Some name)) more)))
   left_of (Pair from to ∷ lines) (InSets k last) h =
       pairs_in_sets k last _ (pair_goes_on k None from to lines refl (left_of lines (InPairs k from to) h))
   left_of (Other ∷ lines) (InSets k last) h = absurd cc
   left_of (Certificate ∷ lines) (InPairs k u v) h = absurd cc
-  left_of (Lattice n ∷ lines) (InPairs k u v) h = parts_in_pairs k (Some (u, v)) _ (by_lattice k n lines h (left_of lines (InSets n None)))
+  left_of (Lattice n ∷ lines) (InPairs k u v) h =
+      parts_in_pairs k (Some (u, v)) _ (by_lattice k n lines h (left_of lines (InSets n None)))
   left_of (Set name first second ∷ lines) (InPairs k u v) h = absurd cc
   left_of (Pair from to ∷ lines) (InPairs k u v) h =
       by_test (InPairs k from to) (λ s. passes alls s lines) (pair_behind (Some (u, v)) (from, to)) h
@@ -178,7 +186,9 @@ module _ (alls : List ℕ) where
 
   -- lines pass wherever sets or pairs of a lattice stand
   abbrev Behind : ℕ → List Line → Type 0
-  Behind k lines = ((last : Option ℕ) → passes alls (InSets k last) lines ≡ true) × ((u v : ℕ) → passes alls (InPairs k u v) lines ≡ true)
+  Behind k lines =
+      ((last : Option ℕ) → passes alls (InSets k last) lines ≡ true)
+      × ((u v : ℕ) → passes alls (InPairs k u v) lines ≡ true)
 
   sets_pass : (sets : List SetLine) (k : ℕ) (last : Option ℕ) (behind : List Line)
       → SetsFit (slice_index alls (k - 1)) last sets →
@@ -215,7 +225,8 @@ module _ (alls : List ℕ) where
   parts_pass : (parts : List Written) (k : ℕ) → k ≤ length alls → PartsFit (drop k alls) parts
       → Behind k (part_lines (k + 1) parts [])
   parts_pass [] k within fit =
-      let ends : (length alls == k) ≡ true = subst (λ (n : ℕ). (n == k) ≡ true) (sym (whole_of k within fit)) (number_same k) in
+      let ends : (length alls == k) ≡ true =
+      subst (λ (n : ℕ). (n == k) ≡ true) (sym (whole_of k within fit)) (number_same k) in
       (λ last. ends, λ u v. ends)
   parts_pass (part ∷ parts) k within fit =
       let low = low_of k part parts fit in
@@ -224,8 +235,11 @@ module _ (alls : List ℕ) where
       let rest = part_lines (k + 1 + 1) parts [] in
       let deeper : Behind (k + 1) rest = parts_pass parts (k + 1) (omega (arith, low)) it.2 in
       let opened : passes alls (InSets (k + 1) None) (set_lines part.sets (pair_lines part.pairs rest)) ≡ true =
-      sets_pass part.sets (k + 1) None (pair_lines part.pairs rest) (rw less it.0) (λ other. pairs_begin part.pairs (k + 1) other rest it.1 deeper) in
-      (λ last. rw (number_same (k + 1), low_is k (length alls) low) opened, λ u v. rw (number_same (k + 1), low_is k (length alls) low) opened)
+      sets_pass part.sets (k + 1) None (pair_lines part.pairs rest) (rw less it.0)
+      (λ other. pairs_begin part.pairs (k + 1) other rest it.1 deeper) in (
+        λ last. rw (number_same (k + 1), is_below k (length alls) low) opened,
+        λ u v. rw (number_same (k + 1), is_below k (length alls) low) opened,
+      )
 
   opened_passes : (parts : List Written) → PartsFit alls parts → passes alls Opened (part_lines 1 parts []) ≡ true
   opened_passes [] fit = subst (λ (n : ℕ). (n == 0) ≡ true) (sym (whole_of 0 (omega arith) fit)) refl
@@ -253,10 +267,14 @@ module _ (alls : List ℕ) where
       → (behind : List Line) × (passes alls section behind ≡ true)
   completes Start within = (lines_of_parts (blanks alls), parts_are_passed (blanks alls) (blanks_fit alls))
   completes Opened within = (part_lines 1 (blanks alls) [], opened_passes (blanks alls) (blanks_fit alls))
-  completes (InSets k last) within =
-      (part_lines (k + 1) (blanks (drop k alls)) [], (parts_pass (blanks (drop k alls)) k within (blanks_fit (drop k alls))).0 last)
-  completes (InPairs k u v) within =
-      (part_lines (k + 1) (blanks (drop k alls)) [], (parts_pass (blanks (drop k alls)) k within (blanks_fit (drop k alls))).1 u v)
+  completes (InSets k last) within = (
+    part_lines (k + 1) (blanks (drop k alls)) [],
+    (parts_pass (blanks (drop k alls)) k within (blanks_fit (drop k alls))).0 last,
+  )
+  completes (InPairs k u v) within = (
+    part_lines (k + 1) (blanks (drop k alls)) [],
+    (parts_pass (blanks (drop k alls)) k within (blanks_fit (drop k alls))).1 u v,
+  )
 
   -- a line leads to a section of a lattice that there is
   by_some : {A : Type 0} → (section to : Section) (b : Bool) → cond b (Some section) None ≡ Some to
@@ -268,11 +286,14 @@ module _ (alls : List ℕ) where
       → cond ((n == k + 1) && nat_lt k (length alls)) (Some (InSets n None)) None ≡ Some to → begun to ≤ length alls
   lattice_begun k n to h = by_some (InSets n None) to ((n == k + 1) && nat_lt k (length alls)) h
       (λ test is. both_true (n == k + 1) (nat_lt k (length alls)) test
-      (λ same low. subst (λ (s : Section). begun s ≤ length alls) is (omega (arith, same_number n (k + 1) same, is_low k (length alls) low))))
+      (λ same low. subst (λ (s : Section). begun s ≤ length alls) is
+      (omega (arith, same_number n (k + 1) same, below_is k (length alls) low))))
 
   pub begun_behind : (section to : Section) (line : Line) → begun section ≤ length alls
       → next alls section line ≡ Some to → begun to ≤ length alls
-  begun_behind Start to Certificate within h = let is : Opened ≡ to = cc in subst (λ (s : Section). begun s ≤ length alls) is (omega arith)
+  begun_behind Start to Certificate within h =
+      let is : Opened ≡ to = cc in
+      subst (λ (s : Section). begun s ≤ length alls) is (omega arith)
   begun_behind Start to (Lattice n) within h = absurd cc
   begun_behind Start to (Set name first second) within h = absurd cc
   begun_behind Start to (Pair u v) within h = absurd cc
@@ -287,11 +308,14 @@ module _ (alls : List ℕ) where
   begun_behind (InSets k last) to (Set name first second) within h =
       by_some (InSets k (Some name)) to (name_behind last name && sets_fit (slice_index alls (k - 1)) first second) h
       (λ test is. subst (λ (s : Section). begun s ≤ length alls) is within)
-  begun_behind (InSets k last) to (Pair u v) within h = let is : InPairs k u v ≡ to = cc in subst (λ (s : Section). begun s ≤ length alls) is within
+  begun_behind (InSets k last) to (Pair u v) within h =
+      let is : InPairs k u v ≡ to = cc in
+      subst (λ (s : Section). begun s ≤ length alls) is within
   begun_behind (InSets k last) to Other within h = absurd cc
   begun_behind (InPairs k x y) to Certificate within h = absurd cc
   begun_behind (InPairs k x y) to (Lattice n) within h = lattice_begun k n to h
   begun_behind (InPairs k x y) to (Set name first second) within h = absurd cc
   begun_behind (InPairs k x y) to (Pair u v) within h =
-      by_some (InPairs k u v) to (pair_behind (Some (x, y)) (u, v)) h (λ test is. subst (λ (s : Section). begun s ≤ length alls) is within)
+      by_some (InPairs k u v) to (pair_behind (Some (x, y)) (u, v)) h
+      (λ test is. subst (λ (s : Section). begun s ≤ length alls) is within)
   begun_behind (InPairs k x y) to Other within h = absurd cc

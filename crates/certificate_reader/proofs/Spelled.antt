@@ -32,7 +32,9 @@ two_joined : (a b : List ℕ) → a ++ 32 ∷ [] ++ b ≡ a ++ 32 ∷ b
 two_joined a b = append_assoc a (32 ∷ []) b
 
 three_joined : (a b c : List ℕ) → a ++ 32 ∷ [] ++ b ++ 32 ∷ [] ++ c ≡ a ++ 32 ∷ (b ++ 32 ∷ c)
-three_joined a b c = append_assoc (a ++ 32 ∷ [] ++ b) (32 ∷ []) c ∙ append_assoc (a ++ 32 ∷ []) b (32 ∷ c) ∙ append_assoc a (32 ∷ []) (b ++ 32 ∷ c)
+three_joined a b c =
+    append_assoc (a ++ 32 ∷ [] ++ b) (32 ∷ []) c ∙ append_assoc (a ++ 32 ∷ []) b (32 ∷ c)
+    ∙ append_assoc a (32 ∷ []) (b ++ 32 ∷ c)
 
 -- lines by their first words
 lattice_begins : (x : List ℕ) → line_kind (codes "lattice " ++ x) ≡ lattice_line (number_of x)
@@ -49,11 +51,13 @@ name_by : (name : ℕ) (b : Bool) → (name % 2 == 0) ≡ b → name < most_name
 name_by name true is small =
     let even : name % 2 ≡ 0 = grind (arith, is) in
     let same : 2 * min (name / 2) (2 ^ 31 - 1) + 0 ≡ name = omega (arith, even, small) in
-    end_in-last (decimal (name / 2)) 97 ∙ ap (λ (o : Option ℕ). by_letter o 97) (decimal_is_read (name / 2) (omega (arith, small))) ∙ ap Some same
+    end_in-last (decimal (name / 2)) 97
+    ∙ ap (λ (o : Option ℕ). by_letter o 97) (decimal_is_read (name / 2) (omega (arith, small))) ∙ ap Some same
 name_by name false is small =
     let odd : name % 2 ≡ 1 = grind (arith, is) in
     let same : 2 * min (name / 2) (2 ^ 31 - 1) + 1 ≡ name = omega (arith, odd, small) in
-    end_in-last (decimal (name / 2)) 98 ∙ ap (λ (o : Option ℕ). by_letter o 98) (decimal_is_read (name / 2) (omega (arith, small))) ∙ ap Some same
+    end_in-last (decimal (name / 2)) 98
+    ∙ ap (λ (o : Option ℕ). by_letter o 98) (decimal_is_read (name / 2) (omega (arith, small))) ∙ ap Some same
 
 name_is_read : (name : ℕ) → name < most_names → end_in (name_text name) ≡ Some name
 name_is_read name small = name_by name (name % 2 == 0) refl small
@@ -69,7 +73,9 @@ letter_lacks c true low = grind (arith, low)
 letter_lacks c false low = grind (arith, low)
 
 name_lacks : (c name : ℕ) → c < 48 → has c (name_text name) ≡ false
-name_lacks c name low = lacks_append c (decimal (name / 2)) (letter name) (decimal_lacks c (name / 2) low) (letter_lacks c (name % 2 == 0) low)
+name_lacks c name low =
+    lacks_append c (decimal (name / 2)) (letter name) (decimal_lacks c (name / 2) low)
+    (letter_lacks c (name % 2 == 0) low)
 
 -- the lines that are written are read
 pub record IsSmall (it : SetLine) : Type 0 where
@@ -85,8 +91,10 @@ set_is it small =
     let second = decimal it.second in
     ap (λ (t : List ℕ). line_kind (codes "  set " ++ t)) (three_joined name first second)
     ∙ set_begins (name ++ 32 ∷ (first ++ 32 ∷ second))
-    ∙ ap set_kind (three_words name first second (name_lacks 32 it.name (omega arith)) (decimal_lacks 32 it.first (omega arith)) (decimal_lacks 32 it.second (omega arith)))
-    ∙ ap (λ (o : Option ℕ). set_line o (bits_of (number_of first)) (bits_of (number_of second))) (name_is_read it.name small.name)
+    ∙ ap set_kind (three_words name first second (name_lacks 32 it.name (omega arith))
+    (decimal_lacks 32 it.first (omega arith)) (decimal_lacks 32 it.second (omega arith)))
+    ∙ ap (λ (o : Option ℕ). set_line o (bits_of (number_of first)) (bits_of (number_of second)))
+    (name_is_read it.name small.name)
     ∙ ap (λ (o : Option ℕ). set_line (Some it.name) o (bits_of (number_of second))) (bits_are_read it.first small.first)
     ∙ ap (set_line (Some it.name) (Some it.first)) (bits_are_read it.second small.second)
 
@@ -116,7 +124,8 @@ set_free it =
     lacks_append 10 (codes "  set " ++ name ++ codes " " ++ first ++ codes " ") second
     (lacks_append 10 (codes "  set " ++ name ++ codes " " ++ first) (codes " ")
     (lacks_append 10 (codes "  set " ++ name ++ codes " ") first
-    (lacks_append 10 (codes "  set " ++ name) (codes " ") (lacks_append 10 (codes "  set ") name refl (name_lacks 10 it.name (omega arith))) refl)
+    (lacks_append 10 (codes "  set " ++ name) (codes " ")
+    (lacks_append 10 (codes "  set ") name refl (name_lacks 10 it.name (omega arith))) refl)
     (decimal_lacks 10 it.first (omega arith))) refl)
     (decimal_lacks 10 it.second (omega arith))
 
@@ -126,7 +135,8 @@ pair_free pair =
     let from = name_text pair.0 in
     let to = name_text pair.1 in
     lacks_append 10 (codes "  pair " ++ from ++ codes " ") to
-    (lacks_append 10 (codes "  pair " ++ from) (codes " ") (lacks_append 10 (codes "  pair ") from refl (name_lacks 10 pair.0 (omega arith))) refl)
+    (lacks_append 10 (codes "  pair " ++ from) (codes " ")
+    (lacks_append 10 (codes "  pair ") from refl (name_lacks 10 pair.0 (omega arith))) refl)
     (name_lacks 10 pair.1 (omega arith))
 
 lattice_free : (number : ℕ) → has 10 (lattice_bytes number) ≡ false
@@ -181,7 +191,8 @@ parts_lines (part ∷ parts) number small few =
     ∙ ap (λ (kind : Line). kind ∷ lines_of (sets ++ (pairs ++ rest))) (lattice_is number (omega (arith, few)))
     ∙ ap (λ (ls : List Line). Lattice number ∷ ls)
     (sets_lines part.sets (pairs ++ rest) small.0
-    ∙ ap (set_lines part.sets) (pairs_lines part.pairs rest small.1 ∙ ap (pair_lines part.pairs) (parts_lines parts (number + 1) small.2 (omega (arith, few)))))
+    ∙ ap (set_lines part.sets) (pairs_lines part.pairs rest small.1
+    ∙ ap (pair_lines part.pairs) (parts_lines parts (number + 1) small.2 (omega (arith, few)))))
 
 -- the text of a whole certificate has its lines, where its numbers are small
 pub text_lines : (parts : List Written) → AreSmallParts parts → length parts < 2 ^ 32 - 1
@@ -226,17 +237,20 @@ letter_of name b is = ap (λ (c : Bool). cond c (codes "a") (codes "b")) is
 
 -- digits and a letter that are read as a name are the text of that name
 named : (digits : List ℕ) (c name : ℕ) (a b : Bool) → (c == 97) ≡ a → (c == 98) ≡ b →
-    cond a (end_of (number_of digits) 0) (cond b (end_of (number_of digits) 1) None) ≡ Some name → name < most_names → digits ++ c ∷ [] ≡ name_text name
+    cond a (end_of (number_of digits) 0) (cond b (end_of (number_of digits) 1) None) ≡ Some name → name < most_names
+    → digits ++ c ∷ [] ≡ name_text name
 named digits c name true b is also h small =
     let it = by_end digits 0 name (number_of digits) refl h (omega arith) small in
     let last : c ≡ 97 = grind (arith, is) in
     let even : (name % 2 == 0) ≡ true = grind (arith, it.1) in
-    ap (λ (xs : List ℕ). xs ++ c ∷ []) it.0 ∙ ap (λ (d : ℕ). decimal (name / 2) ++ d ∷ []) last ∙ ap (λ (xs : List ℕ). decimal (name / 2) ++ xs) (sym (letter_of name true even))
+    ap (λ (xs : List ℕ). xs ++ c ∷ []) it.0 ∙ ap (λ (d : ℕ). decimal (name / 2) ++ d ∷ []) last
+    ∙ ap (λ (xs : List ℕ). decimal (name / 2) ++ xs) (sym (letter_of name true even))
 named digits c name false true is also h small =
     let it = by_end digits 1 name (number_of digits) refl h (omega arith) small in
     let last : c ≡ 98 = grind (arith, also) in
     let odd : (name % 2 == 0) ≡ false = grind (arith, it.1) in
-    ap (λ (xs : List ℕ). xs ++ c ∷ []) it.0 ∙ ap (λ (d : ℕ). decimal (name / 2) ++ d ∷ []) last ∙ ap (λ (xs : List ℕ). decimal (name / 2) ++ xs) (sym (letter_of name false odd))
+    ap (λ (xs : List ℕ). xs ++ c ∷ []) it.0 ∙ ap (λ (d : ℕ). decimal (name / 2) ++ d ∷ []) last
+    ∙ ap (λ (xs : List ℕ). decimal (name / 2) ++ xs) (sym (letter_of name false odd))
 named digits c name false false is also h small = absurd cc
 
 -- bytes that are read as a name are the text of that name
@@ -294,7 +308,8 @@ lattice_spells : (bytes numeral : List ℕ) (o : Option ℕ) → bytes ≡ codes
     → Spells (lattice_line o) bytes
 lattice_spells bytes numeral (Some n) is read small =
     let same : min n (2 ^ 32 - 1) ≡ n = omega (arith, small) in
-    is ∙ ap (λ (t : List ℕ). codes "lattice " ++ t) (decimal_of numeral n (omega (arith, small)) read) ∙ ap (λ (m : ℕ). lattice_bytes m) (sym same)
+    is ∙ ap (λ (t : List ℕ). codes "lattice " ++ t) (decimal_of numeral n (omega (arith, small)) read)
+    ∙ ap (λ (m : ℕ). lattice_bytes m) (sym same)
 lattice_spells bytes numeral None is read small = tt
 
 -- a line of `set` and words is the text of the set line that it is read as
@@ -304,7 +319,8 @@ set_spells bytes rest [] is parts small = tt
 set_spells bytes rest (a ∷ []) is parts small = tt
 set_spells bytes rest (a ∷ b ∷ []) is parts small = tt
 set_spells bytes rest (a ∷ b ∷ c ∷ []) is parts small =
-    by_sets bytes a b c (end_in a) (bits_of (number_of b)) (bits_of (number_of c)) (is ∙ ap (λ (t : List ℕ). codes "  set " ++ t) parts) refl refl refl small
+    by_sets bytes a b c (end_in a) (bits_of (number_of b)) (bits_of (number_of c))
+    (is ∙ ap (λ (t : List ℕ). codes "  set " ++ t) parts) refl refl refl small
 set_spells bytes rest (a ∷ b ∷ c ∷ d ∷ more) is parts small = tt
 
 -- a line of `pair` and words is the text of the pair line that it is read as
@@ -312,21 +328,26 @@ pair_spells : (bytes rest : List ℕ) (ws : List (List ℕ)) → bytes ≡ codes
     → Spells (pair_kind ws) bytes
 pair_spells bytes rest [] is parts small = tt
 pair_spells bytes rest (a ∷ []) is parts small = tt
-pair_spells bytes rest (a ∷ b ∷ []) is parts small = by_pairs bytes a b (end_in a) (end_in b) (is ∙ ap (λ (t : List ℕ). codes "  pair " ++ t) parts) refl refl small
+pair_spells bytes rest (a ∷ b ∷ []) is parts small =
+    by_pairs bytes a b (end_in a) (end_in b) (is ∙ ap (λ (t : List ℕ). codes "  pair " ++ t) parts) refl refl small
 pair_spells bytes rest (a ∷ b ∷ c ∷ more) is parts small = tt
 
 -- a line by its first word
 pairs_spell : (bytes : List ℕ) (o : Option (List ℕ)) → behind (codes "  pair ") bytes ≡ o → Spells (by_pair o) bytes
-pairs_spell bytes (Some rest) is small = pair_spells bytes rest (words rest) (behind_is (codes "  pair ") bytes rest is) (joined rest (words rest) refl) small
+pairs_spell bytes (Some rest) is small =
+    pair_spells bytes rest (words rest) (behind_is (codes "  pair ") bytes rest is)
+    (joined rest (words rest) refl) small
 pairs_spell bytes None is small = tt
 
 sets_spell : (bytes : List ℕ) (o : Option (List ℕ)) → behind (codes "  set ") bytes ≡ o → Spells (by_set o bytes) bytes
-sets_spell bytes (Some rest) is small = set_spells bytes rest (words rest) (behind_is (codes "  set ") bytes rest is) (joined rest (words rest) refl) small
+sets_spell bytes (Some rest) is small =
+    set_spells bytes rest (words rest) (behind_is (codes "  set ") bytes rest is) (joined rest (words rest) refl) small
 sets_spell bytes None is small = pairs_spell bytes (behind (codes "  pair ") bytes) refl small
 
 lattices_spell : (bytes : List ℕ) (o : Option (List ℕ)) → behind (codes "lattice ") bytes ≡ o
     → Spells (by_lattice o bytes) bytes
-lattices_spell bytes (Some numeral) is small = lattice_spells bytes numeral (number_of numeral) (behind_is (codes "lattice ") bytes numeral is) refl small
+lattices_spell bytes (Some numeral) is small =
+    lattice_spells bytes numeral (number_of numeral) (behind_is (codes "lattice ") bytes numeral is) refl small
 lattices_spell bytes None is small = sets_spell bytes (behind (codes "  set ") bytes) refl small
 
 certificate_spells : (bytes : List ℕ) (b : Bool) → bytes_eq bytes (codes "certificate") ≡ b

@@ -10,7 +10,8 @@ pub split_parts : (test : ℕ → Bool) (xs : List ℕ)
 split_parts test [] = ([], [], refl)
 split_parts test (x ∷ xs) =
     let deeper = split_parts test xs in
-    elim (test x) as (λ b. (part : List ℕ) × (parts : List (List ℕ)) × (cond b ([] ∷ slice_split test xs) (onto_first x (slice_split test xs)) ≡ part ∷ parts))
+    elim (test x) as (λ b. (part : List ℕ) × (parts : List (List ℕ))
+    × (cond b ([] ∷ slice_split test xs) (onto_first x (slice_split test xs)) ≡ part ∷ parts))
     [ true ↦ ([], slice_split test xs, refl) | false ↦ (x ∷ deeper.0, deeper.1, ap (onto_first x) deeper.2) ]
 
 pub no_pair : (a b rest : List ℕ) → pair_kind (a ∷ b ∷ slice_split (λ c. c == 32) rest) ≡ Other

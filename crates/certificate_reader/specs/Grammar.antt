@@ -29,7 +29,8 @@ pair_lines (pair ∷ pairs) behind = Pair pair.0 pair.1 ∷ pair_lines pairs beh
 -- lattices from a number on
 abbrev pub part_lines : ℕ → List Written → List Line → List Line
 part_lines number [] behind = behind
-part_lines number (part ∷ parts) behind = Lattice number ∷ set_lines part.sets (pair_lines part.pairs (part_lines (number + 1) parts behind))
+part_lines number (part ∷ parts) behind =
+    Lattice number ∷ set_lines part.sets (pair_lines part.pairs (part_lines (number + 1) parts behind))
 
 -- the lines of a whole certificate
 abbrev pub lines_of_parts : List Written → List Line
@@ -52,7 +53,8 @@ sets_fit all first second = not (second == 0) && (not (nat_lt all first) && not 
 -- each set line stands behind the one before it, and its sets fit
 abbrev pub SetsFit : ℕ → Option ℕ → List SetLine → Type 0
 SetsFit all last [] = Unit {0}
-SetsFit all last (it ∷ sets) = (name_behind last it.name ≡ true) × (sets_fit all it.first it.second ≡ true) × SetsFit all (Some it.name) sets
+SetsFit all last (it ∷ sets) =
+    (name_behind last it.name ≡ true) × (sets_fit all it.first it.second ≡ true) × SetsFit all (Some it.name) sets
 
 -- each pair line stands behind the one before it
 abbrev pub PairsFit : Option (ℕ × ℕ) → List (ℕ × ℕ) → Type 0
@@ -103,8 +105,8 @@ AreKnown sys [] = Unit {0}
 AreKnown sys (line ∷ lines) = (is_known sys line ≡ true) × AreKnown sys lines
 
 -- Line n is the first that does not fit: the lines before it begin a certificate and name variables. No certificate
--- begins with
--- it too, whatever its names say, or it is the line behind the last one and the lines are not yet a certificate.
+-- begins with it too, whatever its names say, or it is the line behind the last one and the lines are not yet a
+-- certificate.
 pub record IsMisfit (sys : System) (orders : List Order) (lines : List Line) (n : ℕ) : Type 0 where
   pub before : ℕ
   pub number : n ≡ before + 1

@@ -21,7 +21,8 @@ AreSame [] [] = Unit {0}
 AreSame [] (other ∷ others) = ⊥
 AreSame (part ∷ parts) [] = ⊥
 AreSame (part ∷ parts) (other ∷ others) =
-    (part.pairs.items ≡ other.pairs.items) × (part.first.items ≡ other.first.items) × (part.second.items ≡ other.second.items) × AreSame parts others
+    (part.pairs.items ≡ other.pairs.items) × (part.first.items ≡ other.first.items)
+    × (part.second.items ≡ other.second.items) × AreSame parts others
 
 -- what a text reads as is one list of certificates
 abbrev pub ReadsOnce : Type 0
@@ -30,10 +31,14 @@ ReadsOnce = (sys : System) (orders : List Order) (bytes : List ℕ) (parts other
 
 -- lines have one fault at most, but for want of memory
 abbrev pub OneFault : Type 0
-OneFault = (sys : System) (orders : List Order) (lines : List Line) (one other : CertFault) → one ≢ NoMemory → other ≢ NoMemory →
+OneFault =
+    (sys : System) (orders : List Order) (lines : List Line) (one other : CertFault) → one ≢ NoMemory
+    → other ≢ NoMemory →
     IsPlaced sys orders lines one → IsPlaced sys orders lines other → one ≡ other
 
 -- and what reads as certificates has none
 abbrev pub TextHasNoFault : Type 0
-TextHasNoFault = (sys : System) (orders : List Order) (bytes : List ℕ) (parts : List Part) (fault : CertFault) → IsBounded sys orders →
+TextHasNoFault =
+    (sys : System) (orders : List Order) (bytes : List ℕ) (parts : List Part) (fault : CertFault)
+    → IsBounded sys orders →
     ReadsAs sys orders bytes parts → IsPlaced sys orders (lines_of bytes) fault → fault ≡ NoMemory

@@ -78,7 +78,8 @@ by_lattice None line = by_set (behind (codes "  set ") line) line
 
 -- what a line is
 unfoldable pub line_kind : List ℕ → Line
-line_kind line = if bytes_eq line (codes "certificate") then Certificate else by_lattice (behind (codes "lattice ") line) line
+line_kind line =
+    if bytes_eq line (codes "certificate") then Certificate else by_lattice (behind (codes "lattice ") line) line
 
 -- The lines of a text, cut at its line feeds. What stands behind the last line feed is no line that fits.
 abbrev pub lines_in : List (List ℕ) → List Line

@@ -13,7 +13,9 @@ SetsExist sys sets = (k : ℕ) (it : SetLine) → slice_get sets k ≡ Some it �
 
 -- the names of pairs are ends that there are
 abbrev pub PairsExist : System → List (ℕ × ℕ) → Type 0
-PairsExist sys pairs = (k : ℕ) (pair : ℕ × ℕ) → slice_get pairs k ≡ Some pair → (pair.0 < 2 * length sys.constraints) × (pair.1 < 2 * length sys.constraints)
+PairsExist sys pairs =
+    (k : ℕ) (pair : ℕ × ℕ) → slice_get pairs k ≡ Some pair → (pair.0 < 2 * length sys.constraints)
+    × (pair.1 < 2 * length sys.constraints)
 
 -- the variable at an end
 abbrev pub var_at : System → ℕ → ℕ

@@ -33,13 +33,15 @@ next alls Opened Other = None
 next alls (InSets number last) Certificate = None
 next alls (InSets number last) (Lattice n) = lattice_behind alls number n
 next alls (InSets number last) (Set name first second) =
-    if name_behind last name && sets_fit (slice_index alls (number - 1)) first second then Some (InSets number (Some name)) else None
+    if name_behind last name && sets_fit (slice_index alls (number - 1)) first second
+    then Some (InSets number (Some name)) else None
 next alls (InSets number last) (Pair from to) = Some (InPairs number from to)
 next alls (InSets number last) Other = None
 next alls (InPairs number u v) Certificate = None
 next alls (InPairs number u v) (Lattice n) = lattice_behind alls number n
 next alls (InPairs number u v) (Set name first second) = None
-next alls (InPairs number u v) (Pair from to) = if pair_behind (Some (u, v)) (from, to) then Some (InPairs number from to) else None
+next alls (InPairs number u v) (Pair from to) =
+    if pair_behind (Some (u, v)) (from, to) then Some (InPairs number from to) else None
 next alls (InPairs number u v) Other = None
 
 -- all lattices have been begun
@@ -55,11 +57,11 @@ fault_behind sys n line None behind = Some (Grammar n)
 fault_behind sys n line (Some section) behind = if is_known sys line then behind section else Some (NoSuchVariable n)
 
 -- The first line that may not stand where it does or that has a name of no variable, of lines from number n on. Where
--- the end
--- comes too soon, it is the line behind the last.
+-- the end comes too soon, it is the line behind the last.
 abbrev pub fault_from : System → List ℕ → Section → ℕ → List Line → Option CertFault
 fault_from sys alls section n [] = if may_end alls section then None else Some (Grammar n)
-fault_from sys alls section n (line ∷ lines) = fault_behind sys n line (next alls section line) (λ s. fault_from sys alls s (n + 1) lines)
+fault_from sys alls section n (line ∷ lines) =
+    fault_behind sys n line (next alls section line) (λ s. fault_from sys alls s (n + 1) lines)
 
 -- The lines of a certificate: its sets fit some lattice, its pairs ascend, and their names are those of variables.
 pub record AreLines (sys : System) (sets : List SetLine) (pairs : List (ℕ × ℕ)) : Type 0 where
@@ -82,7 +84,8 @@ pub record Held : Type 0 where
   pub pairs : List (ℕ × ℕ)
 
 -- the lines are made one more certificate
-pub record Closed (sys : System) (old : Held) (parts : List Part) (sets : List SetLine) (pairs : List (ℕ × ℕ)) : Type 0 where
+pub record Closed (sys : System) (old : Held) (parts : List Part) (sets : List SetLine)
+    (pairs : List (ℕ × ℕ)) : Type 0 where
   pub part : Part
   pub is : IsPartOf sys old.sets old.pairs part
   pub parts_are : parts ≡ old.parts ++ part ∷ []
@@ -105,8 +108,10 @@ abbrev pub Keeps : System → Line → Held → List Part → List SetLine → L
 Keeps sys Certificate old parts sets pairs = Stays old parts sets pairs
 Keeps sys (Lattice n) old parts sets pairs = Closes sys old.section old parts sets pairs
 Keeps sys (Set name first second) old parts sets pairs =
-    (parts ≡ old.parts) × (sets ≡ old.sets ++ record { name = name; first = first; second = second } ∷ []) × (pairs ≡ old.pairs)
-Keeps sys (Pair from to) old parts sets pairs = (parts ≡ old.parts) × (sets ≡ old.sets) × (pairs ≡ old.pairs ++ (from, to) ∷ [])
+    (parts ≡ old.parts) × (sets ≡ old.sets ++ record { name = name; first = first; second = second } ∷ [])
+    × (pairs ≡ old.pairs)
+Keeps sys (Pair from to) old parts sets pairs =
+    (parts ≡ old.parts) × (sets ≡ old.sets) × (pairs ≡ old.pairs ++ (from, to) ∷ [])
 Keeps sys Other old parts sets pairs = Stays old parts sets pairs
 
 -- the line may stand behind what was read and names variables, and is kept
@@ -117,7 +122,8 @@ pub record Takes (sys : System) (alls : List ℕ) (line : Line) (old new : Held)
 
 -- line n is the first that fails, whatever stands behind it
 abbrev pub FailsAt : System → List ℕ → Section → ℕ → Line → CertFault → Type 0
-FailsAt sys alls section n line fault = (behind : Section → Option CertFault) → fault_behind sys n line (next alls section line) behind ≡ Some fault
+FailsAt sys alls section n line fault =
+    (behind : Section → Option CertFault) → fault_behind sys n line (next alls section line) behind ≡ Some fault
 
 -- a certificate of a lattice, whose elements are given
 abbrev pub IsMade : System → ℕ → Part → Type 0

@@ -4,7 +4,7 @@ use certificate_laws::CertRule;
 
 /// A constraint by plain numbers: sites and variables as in `Link`. A constant is the greater one of two elements.
 #[derive(Clone, Copy)]
-pub enum Row {
+pub enum PlainLink {
     Le(u32, u32),
     Const(u32),
     Bound(u32),
@@ -27,7 +27,7 @@ pub struct Case {
     pub rule: CertRule,
     pub owners: &'static [Option<u32>],
     pub sites: &'static [(u32, Option<u32>)],
-    pub rows: &'static [Row],
+    pub rows: &'static [PlainLink],
     pub without: Sets,
     pub whole: Sets,
 }
@@ -40,7 +40,7 @@ const F1: Option<u32> = Some(1);
 
 const F2: Option<u32> = Some(2);
 
-use Row::{Bound, Const, Enter, Le, Leave};
+use PlainLink::{Bound, Const, Enter, Le, Leave};
 
 /// One for each rule, and one for each half of a rule that has two.
 pub static NEEDED: [Case; 13] = [

@@ -3,7 +3,7 @@
 ghost use Rattle.std.specs.Prelude.{◌<◌, ◌^◌};
 ghost use Rattle.flow_graph.specs.System.{IsWithin};
 
-use crate::needed::{Case, NEEDED, Row, Sets};
+use crate::needed::{Case, NEEDED, PlainLink, Sets};
 use certificate_laws::CertRule;
 use closure_check::{CheckIndex, Part, check_part, is_part};
 use flow_graph::{Constraint, FlowGraph, Link, Site, names_elements};
@@ -68,22 +68,22 @@ fn owner_of(number: Option<u32>) -> Owner {
 }
 
 /// The link of a row.
-fn link_of(rt: &impl Abort, row: Row, limit: u8, sites: u32) -> Link
+fn link_of(rt: &impl Abort, row: PlainLink, limit: u8, sites: u32) -> Link
     ensures { IsWithin sites result }
 {
     let lattice = LatticeNo::new(0);
     match row {
-        Row::Le(u, v) => Link::Le(var(rt, u), var(rt, v)),
-        Row::Const(v) => Link::Const(lattice, Elem::new(1), var(rt, v)),
-        Row::Bound(v) => {
+        PlainLink::Le(u, v) => Link::Le(var(rt, u), var(rt, v)),
+        PlainLink::Const(v) => Link::Const(lattice, Elem::new(1), var(rt, v)),
+        PlainLink::Bound(v) => {
             assert!(rt; limit < 2);
             Link::Bound(var(rt, v), lattice, Elem::new(limit))
         }
-        Row::Enter(s, u, v) => {
+        PlainLink::Enter(s, u, v) => {
             assert!(rt; s < sites);
             Link::Enter(SiteId::new(s), var(rt, u), var(rt, v))
         }
-        Row::Leave(s, u, v) => {
+        PlainLink::Leave(s, u, v) => {
             assert!(rt; s < sites);
             Link::Leave(SiteId::new(s), var(rt, u), var(rt, v))
         }

@@ -1,13 +1,11 @@
 -- The ends of constraints, and the table of names.
 use Rattle.std.proofs.Common.{◌≡◌, ℕ, zero, suc, ◌+◌, ◌*◌, ◌<◌, ◌≤◌, ◌==◌, List, [], ◌∷◌, length, drop, slice_get, slice_set, Option, Some, if◌then◌else◌, refl, sym, ◌∙◌, ap, arith, ne_eqb}
+use Rattle.qual_base.proofs.Tests.{some_is}
 use Rattle.flow_graph.specs.declared.constraint.Link.{Link}
 use Rattle.flow_graph.specs.declared.constraint.Link.TheVariants.{Le, Const, Bound, Enter, Leave}
 use Rattle.flow_graph.specs.declared.constraint.Constraint.{Constraint}
 use Rattle.flow_graph.specs.System.{vars_of_link}
 use Rattle.certificate_text.specs.Names.{first_end, second_end, ends_of, first_from, name_in}
-
-some_is : {A : Type 0} → {x y : A} → Some x ≡ Some y → x ≡ y
-some_is e = cc
 
 -- the end of twice a constraint's number is its first one
 pub first_there : (cs : List Constraint) (n k : ℕ) (c : Constraint) → slice_get cs n ≡ Some c → k ≡ 2 * n
@@ -62,12 +60,6 @@ drop_none : {A : Type 0} → (k : ℕ) → drop {A = A} k [] ≡ []
 drop_none zero = refl
 drop_none (suc k) = refl
 
--- nothing is left of a list without as many items as it has, or more
-pub drop_all : {A : Type 0} → (xs : List A) (k : ℕ) → length xs ≤ k → drop k xs ≡ []
-drop_all [] k h = drop_none k
-drop_all (x ∷ xs) zero h = absurd (omega (arith, h))
-drop_all (x ∷ xs) (suc k) h = drop_all xs k (omega (arith, h))
-
 -- setting one place leaves the length of a list
 pub set_length : {A : Type 0} → (xs : List A) (k : ℕ) (x : A) → length (slice_set xs k x) ≡ length xs
 set_length [] k x = refl
@@ -91,4 +83,5 @@ pub known_before : (table : List (Option ℕ)) (ends : List ℕ) (k u : ℕ) →
     ((v : ℕ) → name_in table v ≡ first_from (k + 1) (drop (suc k) ends) v) → (v : ℕ)
     → name_in (slice_set table u (Some k)) v ≡ first_from k (drop k ends) v
 known_before table ends k u there within known v =
-    noted table u v k within ∙ ap (λ o. if u == v then Some k else o) (known v) ∙ ap (λ xs. first_from k xs v) (sym (drop_there ends k u there))
+    noted table u v k within ∙ ap (λ o. if u == v then Some k else o) (known v)
+    ∙ ap (λ xs. first_from k xs v) (sym (drop_there ends k u there))

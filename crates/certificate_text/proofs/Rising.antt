@@ -35,7 +35,9 @@ among_contained xs x there = among_at xs x there.0 there.1 there.2
 pub contained_among : {A : Type 0} → (xs : List A) (x : A) → Among x xs → Contains xs x
 contained_among [] x there = absurd there
 contained_among (y ∷ xs) x (inl is) = (0, omega arith, sym is)
-contained_among (y ∷ xs) x (inr later) = let rest = contained_among xs x later in (suc rest.0, omega (arith, rest.1), rest.2)
+contained_among (y ∷ xs) x (inr later) =
+    let rest = contained_among xs x later in
+    (suc rest.0, omega (arith, rest.1), rest.2)
 
 module _ {A : Type 0} (Before : A → A → Type 0) where
   abbrev pub Rises : List A → Type 0

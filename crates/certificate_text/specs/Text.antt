@@ -16,7 +16,9 @@ pub record Written : Type 0 where
 abbrev pub set_of : Part → Named → List SetLine
 set_of part x =
     if slice_index part.second.items x.var == 0 then []
-    else record { name = x.name; first = slice_index part.first.items x.var; second = slice_index part.second.items x.var } ∷ []
+    else
+    record { name = x.name; first = slice_index part.first.items x.var; second = slice_index part.second.items x.var }
+    ∷ []
 
 -- the set lines of variables
 abbrev pub sets_of : Part → List Named → List SetLine
@@ -39,7 +41,8 @@ pairs_of pairs (x ∷ names) others = pairs_with pairs x others ++ pairs_of pair
 
 -- what is written of a certificate
 abbrev pub written : System → Part → Written
-written sys part = record { sets = sets_of part (names_in sys); pairs = pairs_of part.pairs.items (names_in sys) (names_in sys) }
+written sys part =
+    record { sets = sets_of part (names_in sys); pairs = pairs_of part.pairs.items (names_in sys) (names_in sys) }
 
 -- the bytes of a line, with its line feed
 abbrev pub line : List ℕ → List ℕ
@@ -55,7 +58,8 @@ name_text name = decimal (name / 2) ++ letter name
 
 -- the line of the two sets of a variable
 abbrev pub set_text : SetLine → List ℕ
-set_text it = line (codes "  set " ++ name_text it.name ++ codes " " ++ decimal it.first ++ codes " " ++ decimal it.second)
+set_text it =
+    line (codes "  set " ++ name_text it.name ++ codes " " ++ decimal it.first ++ codes " " ++ decimal it.second)
 
 -- the lines of sets
 abbrev pub sets_text : List SetLine → List ℕ

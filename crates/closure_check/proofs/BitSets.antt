@@ -1,8 +1,8 @@
 -- Sets of elements as bits of a number.
-use Rattle.std.proofs.Common.{◌≡◌, ℕ, suc, ◌<◌, ◌≤◌, ◌^◌, ◌-◌, ◌/◌, ◌↔◌, Bool, true, false, nat_eq, nat_lt, min, List, length, refl, sym, ◌∙◌, ap, arith, inl, inr, bit_and}
+use Rattle.std.proofs.Common.{◌≡◌, ℕ, ◌<◌, ◌≤◌, ◌^◌, ◌-◌, ◌/◌, ◌↔◌, Bool, true, false, nat_eq, min, List, length, refl, sym, ◌∙◌, ap, arith, inl, inr, bit_and}
 use Rattle.std.specs.Int.{bit_at}
 use Rattle.std.proofs.lemmas.Bool.{cases_lt}
-use Rattle.std.proofs.lemmas.Bool.Decides.{eqb_tells, leb_tells}
+use Rattle.std.proofs.lemmas.Bool.Decides.{eqb_tells}
 use Rattle.std.proofs.lemmas.List.{get_or_past}
 use Rattle.std.proofs.lemmas.Nat.Bits.{bit_at-lt, bit_at-zero, bit_at_above, bit_at_and, bit_at_ones, bit_at_ones_above, ones_shr, same_from_bits}
 use Rattle.lattice_core.proofs.Bits.{and_both}
@@ -10,7 +10,9 @@ use Rattle.closure_check.specs.Parts.{has, is_in}
 use Rattle.closure_check.specs.Checking.{IsSubset}
 
 pub bit_of : (set e : ℕ) → has set e ≡ true → bit_at set e ≡ 1
-bit_of set e h = elim (eqb_tells (bit_at set e) 1) [ inl is ↦ is.1 | inr not ↦ let wrong : true ≡ false = sym h ∙ not.0 in absurd cc ]
+bit_of set e h =
+    elim (eqb_tells (bit_at set e) 1)
+    [ inl is ↦ is.1 | inr not ↦ let wrong : true ≡ false = sym h ∙ not.0 in absurd cc ]
 
 pub of_bit : (set e : ℕ) → bit_at set e ≡ 1 → has set e ≡ true
 of_bit set e h = elim (eqb_tells (bit_at set e) 1) [ inl is ↦ is.0 | inr not ↦ absurd (not.1 h) ]
@@ -26,7 +28,9 @@ least_is x y one two on = elim (eqb_tells x 1) [
 ]
 
 pub of_subset : (one other : ℕ) → IsSubset one other → bit_and one other ≡ one
-of_subset one other within = same_from_bits (bit_and one other) one (λ e. bit_at_and one other e ∙ least_is (bit_at one e) (bit_at other e) (bit_at-lt one e) (bit_at-lt other e)
+of_subset one other within =
+    same_from_bits (bit_and one other) one (λ e. bit_at_and one other e
+    ∙ least_is (bit_at one e) (bit_at other e) (bit_at-lt one e) (bit_at-lt other e)
     (λ is. bit_of other e (within e (of_bit one e is))))
 
 -- a set of 64 bits has no more
@@ -37,18 +41,13 @@ none_above set e small high = by_test (has set e) refl
     by_test false is = is
     by_test true is = absurd (omega (arith, bit_of set e is, bit_at_above set 64 e small high))
 
-pub eq_of : (a b : ℕ) → nat_eq a b ≡ true → a ≡ b
-eq_of a b e = elim (eqb_tells a b) [ inl is ↦ is.1 | inr not ↦ let wrong : true ≡ false = sym e ∙ not.0 in absurd cc ]
-
 pub eq_to : (a b : ℕ) → a ≡ b → nat_eq a b ≡ true
 eq_to a b h = elim (eqb_tells a b) [ inl is ↦ is.0 | inr not ↦ absurd (not.1 h) ]
 
-pub not_below : (a b : ℕ) → b ≤ a → nat_lt a b ≡ false
-not_below a b h = elim (leb_tells (suc a) b) [ inl is ↦ absurd (omega (arith, h, is.1)) | inr not ↦ not.0 ]
-
 -- past the last variable the sets are empty
 pub none_past : (sets : List ℕ) (v e : ℕ) → length sets ≤ v → is_in sets v e ≡ false
-none_past sets v e past = ap (λ (set : ℕ). has set e) (get_or_past sets v 0 past) ∙ ap (λ (bit : ℕ). nat_eq bit 1) (bit_at-zero e)
+none_past sets v e past =
+    ap (λ (set : ℕ). has set e) (get_or_past sets v 0 past) ∙ ap (λ (bit : ℕ). nat_eq bit 1) (bit_at-zero e)
 
 -- the set of all elements of a number below 64
 pub all_elements : (size set : ℕ) → size ≤ 64 → set ≡ (2 ^ 64 - 1) / 2 ^ (64 - size) → (e : ℕ)
@@ -58,7 +57,8 @@ all_elements size set few is e =
     let ones : set ≡ 2 ^ size - 1 = is ∙ ones_shr 64 (64 - size) (omega arith) ∙ ap (λ (n : ℕ). 2 ^ n - 1) some in (
       λ h. elim (cases_lt e size) [
         | inl low ↦ low
-        | inr high ↦ absurd (omega (arith, bit_of set e h, ap (λ (n : ℕ). bit_at n e) ones ∙ bit_at_ones_above size e high))
+        | inr high ↦
+            absurd (omega (arith, bit_of set e h, ap (λ (n : ℕ). bit_at n e) ones ∙ bit_at_ones_above size e high))
       ],
       λ low. of_bit set e (ap (λ (n : ℕ). bit_at n e) ones ∙ bit_at_ones size e low),
     )

@@ -15,15 +15,22 @@ leave_from e = cc
 leave_to : {s t u v x y : ℕ} → Leave s u v ≡ Leave t x y → v ≡ y
 leave_to e = cc
 
-module _ (given : Claim) (going : Going) (site inner edge from to : ℕ) (c : Constraint) (there : slice_get given.graph.now.constraints edge ≡ Some c) (is : c.link ≡ Leave site from to) where
+module _ (given : Claim) (going : Going) (site inner edge from to : ℕ) (c : Constraint)
+    (there : slice_get given.graph.now.constraints edge ≡ Some c) (is : c.link ≡ Leave site from to) where
   pub goes_by : ((claimed given).paired inner from ≡ true → GoesOn given going to)
       → GoesBack given going site inner edge
   goes_by goes y pair v st =
-      let one : Leave site from to ≡ Leave site y v = sym is ∙ link_at given.graph.now given.at edge c (Leave site y v) there st in
+      let one : Leave site from to ≡ Leave site y v =
+      sym is ∙ link_at given.graph.now given.at edge c (Leave site y v) there st in
       subst (λ (v : ℕ). GoesOn given going v) (leave_to one)
       (goes (subst (λ (y : ℕ). (claimed given).paired inner y ≡ true) (sym (leave_from one)) pair))
 
   pub by_goes : IsInLattice given.at c.link c.lattices → GoesBack given going site inner edge
       → (claimed given).paired inner from ≡ true → GoesOn given going to
   by_goes carried all pair =
-      all from pair to (record { constraint = c; there = there; link_is = is; carried = subst (λ (l : Link). IsInLattice given.at l c.lattices) is carried })
+      all from pair to (record {
+        constraint = c;
+        there = there;
+        link_is = is;
+        carried = subst (λ (l : Link). IsInLattice given.at l c.lattices) is carried;
+      })

@@ -5,7 +5,7 @@ use Rattle.std.proofs.lemmas.Bool.{cases_lt}
 use Rattle.std.proofs.lemmas.List.{get_or_read}
 use Rattle.flow_graph.specs.System.{System, Stands}
 use Rattle.flow_graph.specs.declared.constraint.Link.{Link}
-use Rattle.flow_graph.specs.Index.{AreThose, IsKeyed}
+use Rattle.flow_graph.specs.Index.{IsKeyed}
 
 -- one more is done
 pub turn_more : {A : Type 0} (P : A → Type 0) (items : List A) (at : ℕ) (item : A) → at < length items
@@ -24,19 +24,8 @@ pub turns_all : {A : Type 0} (P : A → Type 0) (items : List A) (at : ℕ) → 
     → ((k : ℕ) (n : A) → k < at → get_or items k n ≡ n → P n) → (n : A) → Contains items n → P n
 turns_all P items at past done n there = let lt = there.1 in done there.0 n (omega (arith, past, lt)) there.2
 
--- an item of a list of constraints by their key has the key
-pub item_keyed : (sys : System) (key_of : Link → Option ℕ) (key : ℕ) (row items : List ℕ) (at item : ℕ)
-    → AreThose (IsKeyed sys key_of key) row → items ≡ row → at < length items →
-    item ≡ get_or items at item → IsKeyed sys key_of key item
-item_keyed sys key_of key row items at item those same within is = those.only item (subst (λ xs. Contains xs item) same (at, within, sym is))
-
--- each constraint with the key is in the list
-pub keyed_item : (sys : System) (key_of : Link → Option ℕ) (key : ℕ) (row items : List ℕ) (n : ℕ)
-    → AreThose (IsKeyed sys key_of key) row → items ≡ row → IsKeyed sys key_of key n →
-    Contains items n
-keyed_item sys key_of key row items n those same has = subst (λ xs. Contains xs n) (sym same) (those.all n has)
-
 -- a constraint of the lattice has the key of its link
 pub keyed : (sys : System) (lattice n : ℕ) (key_of : Link → Option ℕ) (key : ℕ) (link : Link)
     → Stands sys lattice n link → key_of link ≡ Some key → IsKeyed sys key_of key n
-keyed sys lattice n key_of key link st is = record { constraint = st.constraint; there = st.there; keyed = ap key_of st.link_is ∙ is }
+keyed sys lattice n key_of key link st is =
+    record { constraint = st.constraint; there = st.there; keyed = ap key_of st.link_is ∙ is }

@@ -88,7 +88,9 @@ AsksVar given v = Within ((claimed given).first v) ((claimed given).second v)
 
 -- of a pair and a constraint that begins at its end
 abbrev pub AsksEdge : Claim → CertRule → ℕ → ℕ → ℕ → Type 0
-AsksEdge given rule z u n = (rule ≡ A6 → (v f : ℕ) → IsLink given n (Le u v) → owner_of given.graph.now v ≡ Function f → GoesOn given (Pair z) v)
+AsksEdge given rule z u n =
+    (rule ≡ A6 → (v f : ℕ) → IsLink given n (Le u v) → owner_of given.graph.now v ≡ Function f
+    → GoesOn given (Pair z) v)
     × (rule ≡ A7 → (s x : ℕ) → IsLink given n (Enter s u x) → GoesRound given (Pair z) s x)
 
 -- of a pair and all constraints that begin at its end

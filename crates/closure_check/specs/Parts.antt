@@ -12,7 +12,9 @@ is_below p from to = nat_lt p.0 from || (p.0 == from && nat_lt p.1 to)
 
 -- each comes before those behind it
 abbrev pub AreAscending : List (ℕ × ℕ) → Type 0
-AreAscending pairs = (i j : ℕ) (p q : ℕ × ℕ) → i < j → slice_get pairs i ≡ Some p → slice_get pairs j ≡ Some q → is_below p q.0 q.1 ≡ true
+AreAscending pairs =
+    (i j : ℕ) (p q : ℕ × ℕ) → i < j → slice_get pairs i ≡ Some p → slice_get pairs j ≡ Some q
+    → is_below p q.0 q.1 ≡ true
 
 -- a pair is that of two variables
 abbrev pub is_that : ℕ × ℕ → ℕ → ℕ → Bool
@@ -49,8 +51,7 @@ abbrev pub AreBelow : ℕ → List (ℕ × ℕ) → Type 0
 AreBelow vars pairs = (k : ℕ) (p : ℕ × ℕ) → slice_get pairs k ≡ Some p → (p.0 < vars) × (p.1 < vars)
 
 -- The sets are those of all variables of the system and have elements of the lattice alone; the pairs ascend and are of
--- its
--- variables.
+-- its variables.
 pub record IsPart (sys : System) (order : Order) (part : Part) : Type 0 where
   pub firsts : AreSets order (vars_of sys) part.first.items
   pub seconds : AreSets order (vars_of sys) part.second.items

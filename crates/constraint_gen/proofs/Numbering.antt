@@ -1,7 +1,7 @@
 -- Variables that are listed, skeleton by skeleton.
 use Rattle.std.proofs.Common.{◌≡◌, ℕ, zero, suc, ◌+◌, ◌-◌, ◌<◌, arith, Bool, true, false, List, [], ◌∷◌, ◌++◌, length, length-append, map, drop, slice_index_or, refl, sym, ◌∙◌, ap, append_assoc, append-nil, if◌then◌else◌}
 use Rattle.type_table.specs.Types.{size}
-use Rattle.type_table.specs.declared.row.Row.{Row}
+use Rattle.type_table.specs.declared.row.TypeRow.{TypeRow}
 use Rattle.name_rules.specs.Spellings.{Place}
 use Rattle.row_rules.specs.Starting as rules
 use Rattle.row_rules.specs.Sites.{variables_among}
@@ -31,7 +31,7 @@ numbers_end xs n e is =
     let z : e - n ≡ 0 = omega arith in
     ap (λ (c : ℕ). xs ++ numbers c n) z ∙ append-nil xs
 
-module _ (types : List Row) where
+module _ (types : List TypeRow) where
   pub start_next : (xs : List Start) (i : ℕ) (x : Start) → i < length xs → x ≡ slice_index_or xs i x
       → map (start_in types) (drop i xs) ≡ start_in types x ∷ map (start_in types) (drop (i + 1) xs)
   start_next [] i x lt is = absurd (omega arith)
@@ -60,7 +60,8 @@ module _ (types : List Row) where
 module _ (is : Place → Bool) where
   -- where a skeleton stands
   listed_part : (b : Bool) (at : Place) → is at ≡ b → (ps : List (List Step)) (v : ℕ) (rest : List PositionView)
-      → listed_at is v (positions_at at ps ++ rest) ≡ (if b then numbers (length ps) v else []) ++ listed_at is (v + length ps) rest
+      → listed_at is v (positions_at at ps ++ rest) ≡ (if b then numbers (length ps) v else [])
+      ++ listed_at is (v + length ps) rest
   listed_part true at there [] v rest = let e : v + 0 ≡ v = omega arith in ap (λ (k : ℕ). listed_at is k rest) (sym e)
   listed_part false at there [] v rest = let e : v + 0 ≡ v = omega arith in ap (λ (k : ℕ). listed_at is k rest) (sym e)
   listed_part true at there (p ∷ ps) v rest =

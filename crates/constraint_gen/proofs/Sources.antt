@@ -1,7 +1,6 @@
 -- What is found on the tapes of sources is what the rules say of them.
 use Rattle.std.proofs.Common.{◌≡◌, ℕ, Bool, All, List, [], ◌∷◌, ◌++◌, Option, refl, sym, ◌∙◌, ap, length, map, subst}
 use Rattle.std.proofs.Math.Path.{fun_ext}
-use Rattle.std.proofs.lemmas.List.Elements.{All-nil, All-cons, All-head, All-tail}
 use Rattle.lattice_core.specs.View.{LatticeView}
 use Rattle.flow_graph.specs.declared.constraint.Constraint.{Constraint}
 use Rattle.flow_graph.specs.System.{System}
@@ -11,7 +10,6 @@ use Rattle.name_rules.specs.Spellings.{Place}
 use Rattle.name_rules.specs.Scopes.{Names}
 use Rattle.name_rules.specs.NameSteps.Units.{Tape}
 use Rattle.resolve_laws.specs.NameLaws.NameLaws.{IsSound, tape_of_source}
-use Rattle.row_laws.specs.KeyLaws.Differing.{IsRead}
 use Rattle.type_rules.specs.Program.{Source, names_of}
 use Rattle.name_tables.specs.declared.place_map.map.PlaceMap.{PlaceMap}
 use Rattle.name_tables.specs.PlaceMap.Values.{value_at}
@@ -34,6 +32,7 @@ use Rattle.c_types.specs.Sources.{UnitRead, lexed_of, sources_in}
 use Rattle.unit_system.specs.SourceMarks.Marks.{mark_among}
 use Rattle.unit_system.specs.Sharing.{meant_by}
 use Rattle.unit_system.specs.Systems.{AreNumbered, Meant, names_on, starts_on, starts_among, selections_on, selections_among, rows_among, system_by, system_on}
+use Rattle.row_laws.proofs.KeyLaws.Sound.{sound_of}
 use Rattle.constraint_gen.specs.declared.generating.Generated.{Generated}
 use Rattle.constraint_gen.specs.Listing.{is_listed, listed_at}
 use Rattle.constraint_gen.specs.Programs.{listed_in, program_in}
@@ -46,7 +45,8 @@ starts_by : (access : Bool) (s : Names) (sources : List Source)
     → starts_among access s (map tape_of_source sources) ≡ found_on access s sources
 starts_by access s [] = refl
 starts_by access s (it ∷ sources) =
-    ap (λ (found : List Start). unit_starts access it.spelling s (tape_of it.items) ++ found) (starts_by access s sources)
+    ap (λ (found : List Start). unit_starts access it.spelling s (tape_of it.items) ++ found)
+    (starts_by access s sources)
 
 -- the selections on the tapes of sources are those that the rules find in the sources
 selections_by : (s : Names) (sources : List Source)
@@ -66,19 +66,13 @@ selections_of sources = systems.selections_among (names_of sources) sources
 
 -- the constraints on the tapes of a program's sources are those that the rules find in the sources
 rows_by : (p : Program) (sources : List Source)
-    → rows_among (meant_of p) (names_of p.sources) (starts_of (has_access p.lattices) p.sources) (selections_of p.sources)
+    → rows_among (meant_of p) (names_of p.sources) (starts_of (has_access p.lattices) p.sources)
+    (selections_of p.sources)
     (map tape_of_source sources)
     ≡ row_laws.rows_among p sources
 rows_by p [] = refl
 rows_by p (it ∷ sources) =
     ap (λ (found : List Constraint). unit_rows (world_of p it) (tape_of it.items) ++ found) (rows_by p sources)
-
--- what is read is well formed
-pub sound_of : (sources : List Source) → All IsRead sources → All IsSound sources
-sound_of [] h = All-nil IsSound
-sound_of (it ∷ sources) h =
-    let read = All-head IsRead it sources h in
-    All-cons IsSound it sources (read.all, read.rules) (sound_of sources (All-tail IsRead it sources h))
 
 -- what the laws of start_laws and row_laws say
 pub record Laws : Type 0 where
@@ -118,8 +112,10 @@ module _ (it : Resolved) (sources : List Source) (sound : All IsSound sources) (
 
     system_is : Laws → system_on (meant_of whole) it ≡ system_of whole
     system_is laws =
-        ap (λ (s : Names). system_by (meant_of whole) s (starts_on access it) (selections_on it) (tapes_of it.units)) named
-        ∙ ap (λ (all : List Start). system_by (meant_of whole) (names_of sources) all (selections_on it) (tapes_of it.units))
+        ap
+        (λ (s : Names). system_by (meant_of whole) s (starts_on access it) (selections_on it) (tapes_of it.units)) named
+        ∙ ap (λ (all : List Start).
+        system_by (meant_of whole) (names_of sources) all (selections_on it) (tapes_of it.units))
         (starts_are laws.starts access)
         ∙ ap (λ (all : List Selection).
         system_by (meant_of whole) (names_of sources) (starts_of access sources) all (tapes_of it.units))
@@ -134,15 +130,18 @@ module _ (it : Resolved) (sources : List Source) (sound : All IsSound sources) (
         (rows_by whole sources ∙ laws.rows whole sound)
 
 -- of units as they were read, where the elements that words name are found by their places
-module _ (it : Resolved) (all : List UnitRead) (units : List Lexed) (is : IsProgramOf all units it) (lattices : List LatticeView)
-    (marks : PlaceMap (ℕ × ℕ)) (prelude : List IndexMark) (marked : (p : Place) → value_at marks p ≡ mark_among units p) where
+module _ (it : Resolved) (all : List UnitRead) (units : List Lexed) (is : IsProgramOf all units it)
+    (lattices : List LatticeView)
+    (marks : PlaceMap (ℕ × ℕ)) (prelude : List IndexMark)
+    (marked : (p : Place) → value_at marks p ≡ mark_among units p) where
   -- the marks are those of the units
   marked_all : (p : Place) → value_at marks p ≡ mark_among (lexed_of all) p
   marked_all p = marked p ∙ ap (λ (ls : List Lexed). mark_among ls p) is.lexed
 
   pub system_found : Laws → system_on (meant_by lattices marks prelude) it ≡ system_of (program_in lattices prelude all)
   system_found laws =
-      ap (λ (m : Place → Option (ℕ × ℕ)). let meant : Meant = record { lattices = lattices; mark = m; index = index_in prelude } in
+      ap (λ (m : Place → Option (ℕ × ℕ)).
+      let meant : Meant = record { lattices = lattices; mark = m; index = index_in prelude } in
       system_on meant it) (fun_ext marked_all)
       ∙ system_is it (sources_in all) (sound_of (sources_in all) is.read) is.named is.taped lattices
       (mark_among (lexed_of all)) (index_in prelude) laws
@@ -158,7 +157,8 @@ listed_by all p units s starts lexed named begun =
     ∙ ap (λ (ss : List Start). listed_at (is_listed (lexed_of all) (names_of p.sources)) 0 (positions_of ss)) begun
 
 -- all that is said of what was generated
-module _ (it : Resolved) (all : List UnitRead) (units : List Lexed) (is : IsProgramOf all units it) (lattices : List LatticeView)
+module _ (it : Resolved) (all : List UnitRead) (units : List Lexed) (is : IsProgramOf all units it)
+    (lattices : List LatticeView)
     (prelude : List IndexMark) where
   pub generated : StartsOfProgramAreFound → PositionsAreCounted → PositionsStand → (g : Generated)
       → g.graph ≡ system_of (program_in lattices prelude all)
@@ -174,5 +174,6 @@ module _ (it : Resolved) (all : List UnitRead) (units : List Lexed) (is : IsProg
         stand = λ q v stands. stand g.skeletons.vars (starts_of access (sources_in all)) are.marked q v stands;
         skeletons = are;
         listed = listed
-            ∙ listed_by all (program_in lattices prelude all) units (names_on it) (starts_on access it) is.lexed is.named begun;
+            ∙ listed_by all (program_in lattices prelude all) units (names_on it)
+            (starts_on access it) is.lexed is.named begun;
       }

@@ -15,7 +15,8 @@ has_one : (units : List Lexed) (n : ℕ) (it : Lexed) → n < length units → g
     → has_unit units it.unit ≡ true
 has_one [] n it lt is = absurd (omega arith)
 has_one (lexed ∷ units) zero it lt is =
-    ap (λ (b : Bool). if b then true else has_unit units it.unit) (eq-eqb lexed.unit it.unit (ap (λ (l : Lexed). l.unit) is))
+    ap (λ (b : Bool). if b then true else has_unit units it.unit)
+    (eq-eqb lexed.unit it.unit (ap (λ (l : Lexed). l.unit) is))
 has_one (lexed ∷ units) (suc n) it lt is = by_test (nat_eq lexed.unit it.unit) (has_one units n it (omega arith) is)
   where
     by_test : (b : Bool) → has_unit units it.unit ≡ true → (if b then true else has_unit units it.unit) ≡ true
@@ -34,11 +35,13 @@ first_named (lexed ∷ units) (suc n) it p lt is here differ =
     by_test (nat_eq lexed.unit p.0) refl (first_named units n it p (omega arith) is here differ.1)
   where
     by_test : (b : Bool) → nat_eq lexed.unit p.0 ≡ b → is_name_at units p ≡ is_name_token (slice_get it.tokens p.1)
-        → (if b then is_name_token (slice_get lexed.tokens p.1) else is_name_at units p) ≡ is_name_token (slice_get it.tokens p.1)
+        → (if b then is_name_token (slice_get lexed.tokens p.1) else is_name_at units p)
+        ≡ is_name_token (slice_get it.tokens p.1)
     by_test true e behind =
         let same : lexed.unit ≡ p.0 = eqb-true lexed.unit p.0 e in
         let unit : it.unit ≡ lexed.unit = here ∙ sym same in
-        absurd (let no : true ≡ false = sym (has_one units n it (omega arith) is) ∙ ap (has_unit units) unit ∙ differ.0 in cc)
+        absurd (let no : true ≡ false =
+        sym (has_one units n it (omega arith) is) ∙ ap (has_unit units) unit ∙ differ.0 in cc)
     by_test false e behind = behind
 
 pub named_by_one : (units : List Lexed) (it : Lexed) (p : Place) → Contains units it → it.unit ≡ p.0
@@ -57,8 +60,10 @@ same_units earlier (it ∷ all) n =
 differ_behind : (earlier : List Lexed) (all : List UnitRead) → UnitsDiffer (sources_behind earlier all)
     → NumbersDiffer (lexed_of all)
 differ_behind earlier [] differ = tt
-differ_behind earlier (it ∷ all) differ =
-    (sym (same_units (earlier ++ it.lexed ∷ []) all it.lexed.unit) ∙ differ.0, differ_behind (earlier ++ it.lexed ∷ []) all differ.1)
+differ_behind earlier (it ∷ all) differ = (
+  sym (same_units (earlier ++ it.lexed ∷ []) all it.lexed.unit) ∙ differ.0,
+  differ_behind (earlier ++ it.lexed ∷ []) all differ.1,
+)
 
 pub numbers_differ : (all : List UnitRead) (units : List Lexed) → units ≡ lexed_of all → UnitsDiffer (sources_in all)
     → NumbersDiffer units

@@ -17,7 +17,8 @@ among_other : (units : List Lexed) (lexed : Lexed) (p : Place) → nat_eq lexed.
     → mark_among (units ++ lexed ∷ []) p ≡ mark_among units p
 among_other [] lexed p other = ap (λ (b : Bool). if b then mark_at lexed p.1 else None) other
 among_other (first ∷ units) lexed p other =
-    ap (λ (o : Option (ℕ × ℕ)). if nat_eq first.unit p.0 then mark_at first p.1 else o) (among_other units lexed p other)
+    ap (λ (o : Option (ℕ × ℕ)). if nat_eq first.unit p.0 then mark_at first p.1 else o)
+    (among_other units lexed p other)
 
 -- nor does one behind another of its number
 pub among_known : (units : List Lexed) (lexed : Lexed) (p : Place) → has_unit units lexed.unit ≡ true
@@ -56,7 +57,8 @@ none_among (first ∷ units) p none = by_test (nat_eq first.unit p.0) none (λ i
 among_new : (units : List Lexed) (lexed : Lexed) (p : Place) → has_unit units p.0 ≡ false → nat_eq lexed.unit p.0 ≡ true
     → mark_among (units ++ lexed ∷ []) p ≡ mark_at lexed p.1
 among_new [] lexed p none here = ap (λ (b : Bool). if b then mark_at lexed p.1 else None) here
-among_new (first ∷ units) lexed p none here = by_test (nat_eq first.unit p.0) none (λ is. among_new units lexed p is here)
+among_new (first ∷ units) lexed p none here =
+    by_test (nat_eq first.unit p.0) none (λ is. among_new units lexed p is here)
   where
     by_test : (b : Bool) → (if b then true else has_unit units p.0) ≡ false
         → (has_unit units p.0 ≡ false → mark_among (units ++ lexed ∷ []) p ≡ mark_at lexed p.1)

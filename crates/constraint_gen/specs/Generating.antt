@@ -16,8 +16,7 @@ use Rattle.constraint_gen.specs.Programs.{positions_in, listed_in}
 use Rattle.row_rules.specs.Annotations.{has_access}
 
 -- The units of which some tokens and a program are left: each is well formed of its tokens and no two have one number,
--- and the names
--- and the tapes are theirs.
+-- and the names and the tapes are theirs.
 pub record IsProgramOf (all : List UnitRead) (units : List Lexed) (it : Resolved) : Type 0 where
   pub lexed : units ≡ lexed_of all
   pub read : All IsRead (sources_in all)
@@ -26,8 +25,7 @@ pub record IsProgramOf (all : List UnitRead) (units : List Lexed) (it : Resolved
   pub taped : tapes_of it.units ≡ map tape_of_source (sources_in all)
 
 -- A graph is the system of a program, and each variable of a table stands where the program says; the skeleton at a
--- place is the
--- first that begins there.
+-- place is the first that begins there.
 pub record IsGenerated (units : List UnitRead) (p : Program) (it : Generated) : Type 0 where
   pub system : it.graph ≡ system_of p
   pub count : length it.skeletons.vars ≡ length (positions_in p)

@@ -23,7 +23,8 @@ is_name_token (Some token) = is_name token.kind
 -- the token at a place of one of some units is a name
 abbrev pub is_name_at : List Lexed → Place → Bool
 is_name_at [] p = false
-is_name_at (lexed ∷ units) p = if nat_eq lexed.unit p.0 then is_name_token (slice_get lexed.tokens p.1) else is_name_at units p
+is_name_at (lexed ∷ units) p =
+    if nat_eq lexed.unit p.0 then is_name_token (slice_get lexed.tokens p.1) else is_name_at units p
 
 -- the unit of a place is no prelude
 abbrev pub is_of_source : Place → Bool

@@ -43,7 +43,8 @@ desigs_skel w s (more_desigs d ds) = desigs_skel w (desig_skel w s d) ds
 abbrev pub item_skel : World → Skel → Bool → ℕ → Desigs → Option Skel
 item_skel w (ref v s) is_first next ds = Some s
 item_skel w (flat v (kinds.Struct n)) is_first next no_desigs = next_of_struct w n next
-item_skel w (flat v (kinds.Struct n)) is_first next (more_desigs d ds) = Some (desigs_skel w (flat v (kinds.Struct n)) (more_desigs d ds))
+item_skel w (flat v (kinds.Struct n)) is_first next (more_desigs d ds) =
+    Some (desigs_skel w (flat v (kinds.Struct n)) (more_desigs d ds))
 item_skel w (flat v kinds.Base) is_first next ds = first_alone is_first (flat v kinds.Base)
 item_skel w (flat v kinds.Void) is_first next ds = first_alone is_first (flat v kinds.Void)
 item_skel w (flat v kinds.Nothing) is_first next ds = None
@@ -52,7 +53,8 @@ item_skel w (fun v ps r e) is_first next ds = None
 -- the next member behind an item
 abbrev pub next_behind : World → Skel → Desigs → ℕ → ℕ
 next_behind w s no_desigs next = suc next
-next_behind w s (more_desigs (member_desig token name) ds) next = behind_known (member_of w (struct_of s) name.name) next
+next_behind w s (more_desigs (member_desig token name) ds) next =
+    behind_known (member_of w (struct_of s) name.name) next
 next_behind w s (more_desigs (index_desig opening e closing) ds) next = next
 next_behind w s (more_desigs (range_desig opening e dots e2 closing) ds) next = next
 next_behind w s (more_desigs (old_desig name colon) ds) next = behind_known (member_of w (struct_of s) name.name) next
@@ -80,12 +82,15 @@ module _ (w : World) where
     -- the constraints of the items of such a list, from an index on
     pub items_rule : Skel → Bool → ℕ → InitItems → List Constraint
     items_rule t is_first next no_init_items = []
-    items_rule t is_first next (more_init_items ds equal init items) = rule (item_skel w t is_first next ds) init ++ items_rule t false (next_behind w t ds next) items
+    items_rule t is_first next (more_init_items ds equal init items) =
+        rule (item_skel w t is_first next ds) init ++ items_rule t false (next_behind w t ds next) items
 
   -- the arguments of a call of this function, behind those of them that stand before
   abbrev pub arguments : Skel → ℕ → Exprs → List Constraint
   arguments f i no_exprs = []
-  arguments f i (more_exprs e es) = passed w (zero_at e) (value (val w e)) (param_at (parameters f) i) (further f) (where_is e) ++ arguments f (suc i) es
+  arguments f i (more_exprs e es) =
+      passed w (zero_at e) (value (val w e)) (param_at (parameters f) i) (further f) (where_is e)
+      ++ arguments f (suc i) es
 
 -- what passes inside a struct or union that is a member without a name
 abbrev pub unnamed_word_demand : World → SpecWord → List Constraint
@@ -111,38 +116,54 @@ unnamed_demand w no_words = []
 unnamed_demand w (more_words word words) = unnamed_word_demand w word ++ unnamed_demand w words
 
 -- The operand of `&` is only addressed; its pointer may carry the one by which it came to its place. With the
--- constraints of the
--- operand where it is only addressed, and where it is not.
+-- constraints of the operand where it is only addressed, and where it is not.
 abbrev pub prefix_demand : World → Bool → ℕ → Punct → Expr → List Constraint → List Constraint → List Constraint
 prefix_demand w aims token signs.Ampersand e addressed taken = addressed
-    ++ (if comes_by_pointer false e && has_access w.lattices then carried w (val w e).skel (pointer_to w e) (own w token) (span w token token)
-    else prefixed w signs.Ampersand (zero_at w e) (val w e) (own w token) false (where_is w (prefix token signs.Ampersand e)))
-prefix_demand w aims token p e addressed taken = taken ++ prefixed w p (zero_at w e) (val w e) (own w token) aims (where_is w (prefix token p e))
+    ++ (if comes_by_pointer false e && has_access w.lattices
+    then carried w (val w e).skel (pointer_to w e) (own w token) (span w token token)
+    else prefixed w signs.Ampersand (zero_at w e) (val w e) (own w token) false
+    (where_is w (prefix token signs.Ampersand e)))
+prefix_demand w aims token p e addressed taken =
+    taken ++ prefixed w p (zero_at w e) (val w e) (own w token) aims (where_is w (prefix token p e))
 
 -- of an expression; where its place is only addressed, an index, a `*` or a `->` there is bounded by fewer elements
 abbrev mutual
-  -- the constraints of an expression, and whether its value is read
+  -- the constraints of an expression, by whether its place is only addressed
   pub demand_in : World → Bool → Expr → List Constraint
   demand_in w aims (operation e comma token e2) = demand_in w false e ++ demand_in w false e2
-  demand_in w aims (operation e (assign p) token e2) = demand_in w false e ++ (demand_in w false e2 ++ assigned w p (zero_at w e2) (val w e).skel (value (val w e2)) (where_is w (operation e (assign p) token e2)))
+  demand_in w aims (operation e (assign p) token e2) =
+      demand_in w false e ++ (demand_in w false e2
+      ++ assigned w p (zero_at w e2) (val w e).skel (value (val w e2)) (where_is w (operation e (assign p) token e2)))
   demand_in w aims (operation e (cond no_expr colon) token e2) = demand_in w false e ++ (demand_in w false e2
-      ++ chosen w (zero_at w e) (zero_at w e2) (value (val w e)) (value (val w e2)) (own w token) (where_is w (operation e (cond no_expr colon) token e2)))
-  demand_in w aims (operation e (cond (some_expr m) colon) token e2) = demand_in w false e ++ (demand_in w false m ++ (demand_in w false e2
-      ++ chosen w (zero_at w m) (zero_at w e2) (value (val w m)) (value (val w e2)) (own w token) (where_is w (operation e (cond (some_expr m) colon) token e2))))
+      ++ chosen w (zero_at w e) (zero_at w e2) (value (val w e)) (value (val w e2)) (own w token)
+      (where_is w (operation e (cond no_expr colon) token e2)))
+  demand_in w aims (operation e (cond (some_expr m) colon) token e2) =
+      demand_in w false e ++ (demand_in w false m ++ (demand_in w false e2
+      ++ chosen w (zero_at w m) (zero_at w e2) (value (val w m)) (value (val w e2)) (own w token)
+      (where_is w (operation e (cond (some_expr m) colon) token e2))))
   demand_in w aims (operation e (binary p) token e2) = demand_in w false e ++ (demand_in w false e2
-      ++ computed w p (zero_at w e) (zero_at w e2) (value (val w e)) (value (val w e2)) (own w token) (where_is w (operation e (binary p) token e2)))
-  demand_in w aims (cast opening ws d closing e) = words_demand w ws ++ (some_declr_demand w row_of_name d ++ (demand_in w false e
-      ++ cast_demand w (type_of_name w ws) (zero_at w e) (value (val w e)) (own w opening) (where_is w (cast opening ws d closing e))))
+      ++ computed w p (zero_at w e) (zero_at w e2) (value (val w e)) (value (val w e2)) (own w token)
+      (where_is w (operation e (binary p) token e2)))
+  demand_in w aims (cast opening ws d closing e) =
+      words_demand w ws ++ (some_declr_demand w row_of_name d ++ (demand_in w false e
+      ++ cast_demand w (type_of_name w ws) (zero_at w e) (value (val w e)) (own w opening)
+      (where_is w (cast opening ws d closing e))))
   demand_in w aims (prefix token p e) = prefix_demand w aims token p e (demand_in w true e) (demand_in w false e)
   demand_in w aims (sizeof_value word e) = []
   demand_in w aims (sizeof_type word opening ws d closing) = []
   demand_in w aims (extension keyword e) = demand_in w aims e
-  demand_in w aims (index e opening e2 closing) = demand_in w false e ++ (demand_in w false e2 ++ index_demand w (value (val w e)) (value (val w e2)) aims (where_is w (index e opening e2 closing)))
-  demand_in w aims (call e opening es closing) = demand_in w false e ++ (exprs_demand w es ++ arguments w (contents (value (val w e))) 0 es)
+  demand_in w aims (index e opening e2 closing) =
+      demand_in w false e ++ (demand_in w false e2
+      ++ index_demand w (value (val w e)) (value (val w e2)) aims (where_is w (index e opening e2 closing)))
+  demand_in w aims (call e opening es closing) =
+      demand_in w false e ++ (exprs_demand w es ++ arguments w (contents (value (val w e))) 0 es)
   demand_in w aims (dot e token name) = demand_in w aims e
-  demand_in w aims (arrow e token name) = demand_in w false e ++ dereferenced w (value (val w e)) aims (where_is w (arrow e token name))
-  demand_in w aims (post e token p) = demand_in w false e ++ write_bounds w (root (val w e).skel) (where_is w (post e token p))
-  demand_in w aims (compound opening ws d closing list) = words_demand w ws ++ (some_declr_demand w row_of_name d ++ (init_list_demand w list
+  demand_in w aims (arrow e token name) =
+      demand_in w false e ++ dereferenced w (value (val w e)) aims (where_is w (arrow e token name))
+  demand_in w aims (post e token p) =
+      demand_in w false e ++ write_bounds w (root (val w e).skel) (where_is w (post e token p))
+  demand_in w aims (compound opening ws d closing list) =
+      words_demand w ws ++ (some_declr_demand w row_of_name d ++ (init_list_demand w list
       ++ (literal_row w opening (type_of_name w ws) ++ list_rule w (contents (own w opening)) list)))
   demand_in w aims (name_use token name) = use_demand w token (use_at w.names.uses (at w token))
   demand_in w aims (number_use token) = []
@@ -150,16 +171,22 @@ abbrev mutual
   demand_in w aims (text_use texts) = formed_here w (first_text texts)
   demand_in w aims (paren opening e closing) = demand_in w aims e
   demand_in w aims (statement_expr opening opening2 items closing closing2) = block_items_demand w items
-  demand_in w aims (va_arg keyword opening e separator ws d closing) = demand_in w false e ++ (words_demand w ws ++ (some_declr_demand w row_of_name d
-      ++ taken_fresh w keyword (type_of_name w ws) (value (val w e)) (where_is w (va_arg keyword opening e separator ws d closing))))
-  demand_in w aims (va_start keyword opening e separator e2 closing) = demand_in w false e ++ (demand_in w false e2 ++ started w w.own (value (val w e)) (where_is w (va_start keyword opening e separator e2 closing)))
+  demand_in w aims (va_arg keyword opening e separator ws d closing) =
+      demand_in w false e ++ (words_demand w ws ++ (some_declr_demand w row_of_name d
+      ++ taken_fresh w keyword (type_of_name w ws) (value (val w e))
+      (where_is w (va_arg keyword opening e separator ws d closing))))
+  demand_in w aims (va_start keyword opening e separator e2 closing) =
+      demand_in w false e ++ (demand_in w false e2
+      ++ started w w.own (value (val w e)) (where_is w (va_start keyword opening e separator e2 closing)))
   demand_in w aims (va_copy keyword opening e separator e2 closing) = demand_in w false e ++ (demand_in w false e2
-      ++ flowing (zero_at w e2) (value (val w e2)) (value (val w e)) (all_lattices w) (where_is w (va_copy keyword opening e separator e2 closing)))
+      ++ flowing (zero_at w e2) (value (val w e2)) (value (val w e)) (all_lattices w)
+      (where_is w (va_copy keyword opening e separator e2 closing)))
   demand_in w aims (offset keyword opening ws d separator name steps closing) = []
   demand_in w aims (complex_part keyword e) = demand_in w aims e
   demand_in w aims (label_use token name) = formed_here w token
   demand_in w aims (compat keyword opening ws d separator ws2 d2 closing) = []
-  demand_in w aims (choose keyword opening e separator e2 separator2 e3 closing) = demand_in w false e2 ++ (demand_in w false e3
+  demand_in w aims (choose keyword opening e separator e2 separator2 e3 closing) =
+      demand_in w false e2 ++ (demand_in w false e3
       ++ picked w (left_of (candidate_of w e2 ∷ candidate_of w e3 ∷ [])) (own w keyword) (span w keyword keyword))
   demand_in w aims (generic keyword opening e xs closing) = assocs_demand w xs
       ++ picked w (left_of (candidates_of w keyword 0 xs)) (own w keyword) (span w keyword keyword)
@@ -171,7 +198,8 @@ abbrev mutual
 
   -- the constraints of an association of a `_Generic`
   pub assoc_demand : World → Assoc → List Constraint
-  assoc_demand w (typed_assoc ws d colon e) = words_demand w ws ++ (some_declr_demand w row_of_name d ++ demand_in w false e)
+  assoc_demand w (typed_assoc ws d colon e) =
+      words_demand w ws ++ (some_declr_demand w row_of_name d ++ demand_in w false e)
   assoc_demand w (default_assoc keyword colon e) = demand_in w false e
 
   -- the constraints of an expression that may be left out
@@ -244,11 +272,13 @@ abbrev mutual
   declr_demand w row own (declr_name token name) = row_at w row token
   declr_demand w row own (declr_paren opening attrs d closing) = declr_demand w row own d
   declr_demand w row own (array d opening words size closing) = declr_demand w row own d
-  declr_demand w row own (params d opening ps dots closing) = declr_demand w row own d ++ params_demand w own (is_bare d) 0 ps
+  declr_demand w row own (params d opening ps dots closing) =
+      declr_demand w row own d ++ params_demand w own (is_bare d) 0 ps
   declr_demand w row own (abs_pointer star words d) = some_declr_demand w row d
   declr_demand w row own (abs_paren opening attrs d closing) = declr_demand w row own d
   declr_demand w row own (abs_array d opening words size closing) = some_declr_demand w row d
-  declr_demand w row own (abs_params d opening ps dots closing) = some_declr_demand w row d ++ params_demand w None false 0 ps
+  declr_demand w row own (abs_params d opening ps dots closing) =
+      some_declr_demand w row d ++ params_demand w None false 0 ps
   declr_demand w row own (identifiers d opening names closing) = declr_demand w row own d
   declr_demand w row own (base_name token) = []
 
@@ -260,7 +290,8 @@ abbrev mutual
   -- the constraints of parameters
   pub params_demand : World → Option Skel → Bool → ℕ → Params → List Constraint
   params_demand w own bare i no_params = []
-  params_demand w own bare i (more_params ws d attrs ps) = words_demand w ws ++ (some_declr_demand w (param_kind own bare i) d ++ params_demand w own bare (suc i) ps)
+  params_demand w own bare i (more_params ws d attrs ps) =
+      words_demand w ws ++ (some_declr_demand w (param_kind own bare i) d ++ params_demand w own bare (suc i) ps)
 
   -- the constraints of an initialiser
   pub init_demand : World → Init → List Constraint
@@ -279,7 +310,8 @@ abbrev mutual
   -- the constraints of the declarators of a declaration
   pub init_declrs_demand : World → InitDeclrs → List Constraint
   init_declrs_demand w no_init_declrs = []
-  init_declrs_demand w (more_init_declrs attrs d asm_label attrs2 init ds) = declr_demand w row_of_name None d ++ (some_init_demand w (declared_name d) init ++ init_declrs_demand w ds)
+  init_declrs_demand w (more_init_declrs attrs d asm_label attrs2 init ds) =
+      declr_demand w row_of_name None d ++ (some_init_demand w (declared_name d) init ++ init_declrs_demand w ds)
 
   -- the constraints of the initialiser of a declarator, if it has one
   pub some_init_demand : World → Option Named → SomeInit → List Constraint
@@ -291,7 +323,8 @@ abbrev mutual
   pub old_declrs_demand : World → Option Skel → InitDeclrs → List Constraint
   old_declrs_demand w own no_init_declrs = []
   old_declrs_demand w own (more_init_declrs attrs d asm_label attrs2 init ds) =
-      declr_demand w (identified_kind w own (declared_name d)) None d ++ (some_init_demand w (declared_name d) init ++ old_declrs_demand w own ds)
+      declr_demand w (identified_kind w own (declared_name d)) None d
+      ++ (some_init_demand w (declared_name d) init ++ old_declrs_demand w own ds)
 
   -- the constraints of a declaration between the parameters of an old function and its body
   pub old_declaration_demand : World → Option Skel → Declaration → List Constraint
@@ -325,16 +358,19 @@ abbrev mutual
   stmt_demand w (label name colon attrs t) = stmt_demand w t
   stmt_demand w (case_stmt keyword e colon t) = stmt_demand w t
   stmt_demand w (default_stmt keyword colon t) = stmt_demand w t
-  stmt_demand w (if_stmt keyword opening e closing t other) = demand_in w false e ++ (stmt_demand w t ++ some_else_demand w other)
+  stmt_demand w (if_stmt keyword opening e closing t other) =
+      demand_in w false e ++ (stmt_demand w t ++ some_else_demand w other)
   stmt_demand w (switch_stmt keyword opening e closing t) = demand_in w false e ++ stmt_demand w t
   stmt_demand w (while_stmt keyword opening e closing t) = demand_in w false e ++ stmt_demand w t
   stmt_demand w (do_stmt keyword t keyword2 opening e closing semi) = stmt_demand w t ++ demand_in w false e
-  stmt_demand w (for_stmt keyword opening start e semi e2 closing t) = for_start_demand w start ++ (some_expr_demand w e ++ (some_expr_demand w e2 ++ stmt_demand w t))
+  stmt_demand w (for_stmt keyword opening start e semi e2 closing t) =
+      for_start_demand w start ++ (some_expr_demand w e ++ (some_expr_demand w e2 ++ stmt_demand w t))
   stmt_demand w (goto_stmt keyword name semi) = []
   stmt_demand w (continue_stmt keyword semi) = []
   stmt_demand w (break_stmt keyword semi) = []
   stmt_demand w (return_stmt keyword no_expr semi) = []
-  stmt_demand w (return_stmt keyword (some_expr e) semi) = demand_in w false e ++ returned w w.own (zero_at w e) (value (val w e)) (span w keyword semi)
+  stmt_demand w (return_stmt keyword (some_expr e) semi) =
+      demand_in w false e ++ returned w w.own (zero_at w e) (value (val w e)) (span w keyword semi)
   stmt_demand w (asm_stmt keyword words group semi) = []
   stmt_demand w (case_range keyword e dots e2 colon t) = stmt_demand w t
   stmt_demand w (goto_value keyword star e semi) = demand_in w false e
@@ -360,24 +396,31 @@ old_declarations_demand w own (d ∷ ds) = old_declaration_demand w own d ++ old
 
 -- a declarator with a list of identifiers: the declarations behind it stand where those of parameters do
 abbrev pub old_declr_demand : World → Option Skel → List Declaration → Declr → List Constraint
-old_declr_demand w own ds (identifiers d opening names closing) = declr_demand w row_of_name None d ++ old_declarations_demand w own ds
+old_declr_demand w own ds (identifiers d opening names closing) =
+    declr_demand w row_of_name None d ++ old_declarations_demand w own ds
 old_declr_demand w own ds (pointer star words d) = old_declr_demand w own ds d
 old_declr_demand w own ds (declr_paren opening attrs d closing) = old_declr_demand w own ds d
 old_declr_demand w own ds (array d opening words size closing) = old_declr_demand w own ds d
-old_declr_demand w own ds (params d opening ps dots closing) = old_declr_demand w own ds d ++ params_demand w None false 0 ps
+old_declr_demand w own ds (params d opening ps dots closing) =
+    old_declr_demand w own ds d ++ params_demand w None false 0 ps
 old_declr_demand w own ds (declr_name token name) = declr_demand w row_of_name None (declr_name token name)
 old_declr_demand w own ds (base_name token) = []
 old_declr_demand w own ds (abs_pointer star words d) = declr_demand w row_of_name None (abs_pointer star words d)
-old_declr_demand w own ds (abs_paren opening attrs d closing) = declr_demand w row_of_name None (abs_paren opening attrs d closing)
-old_declr_demand w own ds (abs_array d opening words size closing) = declr_demand w row_of_name None (abs_array d opening words size closing)
-old_declr_demand w own ds (abs_params d opening ps dots closing) = declr_demand w row_of_name None (abs_params d opening ps dots closing)
+old_declr_demand w own ds (abs_paren opening attrs d closing) =
+    declr_demand w row_of_name None (abs_paren opening attrs d closing)
+old_declr_demand w own ds (abs_array d opening words size closing) =
+    declr_demand w row_of_name None (abs_array d opening words size closing)
+old_declr_demand w own ds (abs_params d opening ps dots closing) =
+    declr_demand w row_of_name None (abs_params d opening ps dots closing)
 
 -- the constraints of a function, a declaration or another item of a unit
 abbrev pub item_demand : World → Item → List Constraint
 item_demand w (function_item exts ws d attrs opening items closing) =
-    words_demand w ws ++ (declr_demand w row_of_name (own_skeleton w (declared_name d)) d ++ block_items_demand (record w { own = own_skeleton w (declared_name d) }) items)
+    words_demand w ws ++ (declr_demand w row_of_name (own_skeleton w (declared_name d)) d
+    ++ block_items_demand (record w { own = own_skeleton w (declared_name d) }) items)
 item_demand w (old_function_item exts ws d attrs ds opening items closing) =
-    words_demand w ws ++ (old_declr_demand w (own_skeleton w (declared_name d)) ds d ++ block_items_demand (record w { own = own_skeleton w (declared_name d) }) items)
+    words_demand w ws ++ (old_declr_demand w (own_skeleton w (declared_name d)) ds d
+    ++ block_items_demand (record w { own = own_skeleton w (declared_name d) }) items)
 item_demand w (decl_item d) = decl_demand w d
 item_demand w (asm_item keyword group semi) = []
 item_demand w (semi_item semi) = []

@@ -1,8 +1,7 @@
 -- Where skeletons begin: at each declared name and at each expression that has a fresh one, in the order of the text.
--- What is
--- the size of an array, the width of a member, the value of an enumerator, a case label, an index of a designator, or
--- an operand
--- of `sizeof` or `offsetof` gives no fresh skeleton and no site; names that are declared in it have theirs.
+-- What is the size of an array, the width of a member, the value of an enumerator, a case label, an index of a
+-- designator, or an operand of `sizeof` or `offsetof` gives no fresh skeleton and no site; names that are declared in
+-- it have theirs.
 use Rattle.std.specs.Prelude.{ℕ, Bool, true, false, ◌&&◌, not, List, [], ◌∷◌, ◌++◌, Option, None, Some}
 use Rattle.c_tree.specs.Tree.{Expr, operation, cast, prefix, sizeof_value, sizeof_type, extension, index, call, dot, arrow, post, compound, name_use, number_use, char_use, text_use, paren, statement_expr, va_arg, va_start, va_copy, offset, comma, assign, cond, binary, SomeExpr, no_expr, some_expr, Exprs, no_exprs, more_exprs, SpecWords, no_words, more_words, SpecWord, storage, thread, inline_word, noreturn, qualifier, basic, struct_type, enum_type, typedef_name, attribute, SomeBody, no_body, some_body, StructItems, no_struct_items, more_struct_items, StructItem, member, member_semi, member_assert, MemDeclrs, no_mem_declrs, more_mem_declrs, MemDeclr, named, unnamed, SomeValue, no_value, some_value, EnumType, enum_of, no_enum_body, some_enum_body, Enumerators, no_enumerators, more_enumerators, Declr, pointer, declr_name, declr_paren, array, params, abs_pointer, abs_paren, abs_array, abs_params, SomeDeclr, no_declr, some_declr, SomeSize, no_size, some_size, ArraySize, size_value, size_star, Params, no_params, more_params, Init, init_value, init_braced, InitList, init_list, InitItems, no_init_items, more_init_items, Desigs, no_desigs, more_desigs, Desig, member_desig, index_desig, SomeInit, no_init, some_init, InitDeclrs, no_init_declrs, more_init_declrs, Declaration, declaration, Decl, decl_declaration, decl_assert, BlockItems, no_block_items, more_block_items, BlockItem, block_decl, block_stmt, Stmt, block, expr_stmt, attr_stmt, label, case_stmt, default_stmt, if_stmt, switch_stmt, while_stmt, do_stmt, for_stmt, goto_stmt, continue_stmt, break_stmt, return_stmt, asm_stmt, SomeElse, no_else, some_else, ForStart, start_declaration, start_value, typeof_value, typeof_type, align, auto_word, complex_part, label_use, compat, choose, generic, range_desig, old_desig, case_range, goto_value, block_labels, identifiers, base_name, Assocs, no_assocs, more_assocs, Assoc, typed_assoc, default_assoc}
 use Rattle.c_tree.specs.Unit.{Item, function_item, decl_item, asm_item, semi_item, old_function_item}
@@ -54,42 +53,61 @@ abbrev mutual
   expr_starts a (operation e comma token e2) = expr_starts a e ++ expr_starts a e2
   expr_starts a (operation e (assign p) token e2) = expr_starts a e ++ expr_starts a e2
   expr_starts a (operation e (cond no_expr colon) token e2) = expr_starts a e ++ (expr_starts a e2
-      ++ fresh_where (not (is_zero a.spelling a.names e) && not (is_zero a.spelling a.names e2)) (some_fresh a token (shape_of a.spelling a.names (operation e (cond no_expr colon) token e2)).type))
-  expr_starts a (operation e (cond (some_expr m) colon) token e2) = expr_starts a e ++ (expr_starts a m ++ (expr_starts a e2
-      ++ fresh_where (not (is_zero a.spelling a.names m) && not (is_zero a.spelling a.names e2)) (some_fresh a token (shape_of a.spelling a.names (operation e (cond (some_expr m) colon) token e2)).type)))
+      ++ fresh_where (not (is_zero a.spelling a.names e) && not (is_zero a.spelling a.names e2))
+      (some_fresh a token (shape_of a.spelling a.names (operation e (cond no_expr colon) token e2)).type))
+  expr_starts a (operation e (cond (some_expr m) colon) token e2) =
+      expr_starts a e ++ (expr_starts a m ++ (expr_starts a e2
+      ++ fresh_where (not (is_zero a.spelling a.names m) && not (is_zero a.spelling a.names e2))
+      (some_fresh a token (shape_of a.spelling a.names (operation e (cond (some_expr m) colon) token e2)).type)))
   expr_starts a (operation e (binary p) token e2) = expr_starts a e ++ (expr_starts a e2
-      ++ fresh_where (is_fresh_binary p (is_some_pointer (value (shape_of a.spelling a.names e))) (is_some_pointer (value (shape_of a.spelling a.names e2)))) (fresh a token (base [])))
-  expr_starts a (cast opening ws d closing e) = words_starts a ws ++ (some_declr_starts a with_skeleton d ++ (expr_starts a e ++ some_fresh a opening (type_at a ws)))
-  expr_starts a (prefix token p e) = expr_starts a e ++ prefix_starts p (comes_by_pointer false e && a.access) a token (shape_of a.spelling a.names e)
+      ++ fresh_where (is_fresh_binary p (is_some_pointer (value (shape_of a.spelling a.names e)))
+      (is_some_pointer (value (shape_of a.spelling a.names e2)))) (fresh a token (base [])))
+  expr_starts a (cast opening ws d closing e) =
+      words_starts a ws
+      ++ (some_declr_starts a with_skeleton d ++ (expr_starts a e ++ some_fresh a opening (type_at a ws)))
+  expr_starts a (prefix token p e) =
+      expr_starts a e ++ prefix_starts p (comes_by_pointer false e && a.access) a token (shape_of a.spelling a.names e)
   expr_starts a (sizeof_value word e) = expr_starts (quiet a) e ++ fresh a word.token (base [])
-  expr_starts a (sizeof_type word opening ws d closing) = words_starts (quiet a) ws ++ (some_declr_starts (quiet a) with_skeleton d ++ fresh a word.token (base []))
+  expr_starts a (sizeof_type word opening ws d closing) =
+      words_starts (quiet a) ws ++ (some_declr_starts (quiet a) with_skeleton d ++ fresh a word.token (base []))
   expr_starts a (extension keyword e) = expr_starts a e
   expr_starts a (index e opening e2 closing) = expr_starts a e ++ expr_starts a e2
   expr_starts a (call e opening es closing) = expr_starts a e ++ exprs_starts a es
   expr_starts a (dot e token name) = expr_starts a e
   expr_starts a (arrow e token name) = expr_starts a e
   expr_starts a (post e token p) = expr_starts a e
-  expr_starts a (compound opening ws d closing list) = words_starts a ws ++ (some_declr_starts a with_skeleton d ++ (init_list_starts a list ++ some_fresh a opening (some_place (type_at a ws))))
+  expr_starts a (compound opening ws d closing list) =
+      words_starts a ws ++ (some_declr_starts a with_skeleton d
+      ++ (init_list_starts a list ++ some_fresh a opening (some_place (type_at a ws))))
   expr_starts a (name_use token name) = use_start a token (use_at a.names.uses (place a.spelling token))
   expr_starts a (number_use token) = fresh a token (base [])
   expr_starts a (char_use token) = fresh a token (base [])
   expr_starts a (text_use texts) = fresh a (first_text texts) (pointer [] text_type)
   expr_starts a (paren opening e closing) = expr_starts a e
-  expr_starts a (statement_expr opening opening2 items closing closing2) = block_items_starts a items ++ fresh_where (not (ends_in_value items)) (fresh a opening (void []))
-  expr_starts a (va_arg keyword opening e separator ws d closing) = expr_starts a e ++ (words_starts a ws ++ (some_declr_starts a with_skeleton d ++ some_fresh a keyword (type_at a ws)))
-  expr_starts a (va_start keyword opening e separator e2 closing) = expr_starts a e ++ (expr_starts a e2 ++ fresh a keyword (void []))
-  expr_starts a (va_copy keyword opening e separator e2 closing) = expr_starts a e ++ (expr_starts a e2 ++ fresh a keyword (void []))
-  expr_starts a (offset keyword opening ws d separator name steps closing) = words_starts (quiet a) ws ++ (some_declr_starts (quiet a) with_skeleton d ++ (desigs_starts a steps ++ fresh a keyword (base [])))
+  expr_starts a (statement_expr opening opening2 items closing closing2) =
+      block_items_starts a items ++ fresh_where (not (ends_in_value items)) (fresh a opening (void []))
+  expr_starts a (va_arg keyword opening e separator ws d closing) =
+      expr_starts a e
+      ++ (words_starts a ws ++ (some_declr_starts a with_skeleton d ++ some_fresh a keyword (type_at a ws)))
+  expr_starts a (va_start keyword opening e separator e2 closing) =
+      expr_starts a e ++ (expr_starts a e2 ++ fresh a keyword (void []))
+  expr_starts a (va_copy keyword opening e separator e2 closing) =
+      expr_starts a e ++ (expr_starts a e2 ++ fresh a keyword (void []))
+  expr_starts a (offset keyword opening ws d separator name steps closing) =
+      words_starts (quiet a) ws
+      ++ (some_declr_starts (quiet a) with_skeleton d ++ (desigs_starts a steps ++ fresh a keyword (base [])))
   expr_starts a (complex_part keyword e) = expr_starts a e
   expr_starts a (label_use token name) = fresh a token (pointer [] (void []))
   expr_starts a (compat keyword opening ws d separator ws2 d2 closing) =
       words_starts (quiet a) ws ++ (some_declr_starts (quiet a) with_skeleton d ++ (words_starts (quiet a) ws2
       ++ (some_declr_starts (quiet a) with_skeleton d2 ++ fresh a keyword (base []))))
   expr_starts a (choose keyword opening e separator e2 separator2 e3 closing) =
-      expr_starts (quiet a) e ++ (expr_starts a e2 ++ (expr_starts a e3 ++ pick_starts a keyword (candidate_of a.spelling a.names e2 ∷ candidate_of a.spelling a.names e3 ∷ [])))
+      expr_starts (quiet a) e ++ (expr_starts a e2 ++ (expr_starts a e3
+      ++ pick_starts a keyword (candidate_of a.spelling a.names e2 ∷ candidate_of a.spelling a.names e3 ∷ [])))
   expr_starts a (generic keyword opening e xs closing) =
       expr_starts (quiet a) e ++ (assocs_starts a xs
-      ++ pick_starts a keyword (selected_by (value (shape_of a.spelling a.names e)) (associations_of a.spelling a.names xs)))
+      ++ pick_starts a keyword
+      (selected_by (value (shape_of a.spelling a.names e)) (associations_of a.spelling a.names xs)))
 
   -- the skeletons that begin in the associations of a `_Generic`
   pub assocs_starts : Around → Assocs → List Start
@@ -98,7 +116,8 @@ abbrev mutual
 
   -- the skeletons that begin in an association of a `_Generic`
   pub assoc_starts : Around → Assoc → List Start
-  assoc_starts a (typed_assoc ws d colon e) = words_starts a ws ++ (some_declr_starts a with_skeleton d ++ expr_starts a e)
+  assoc_starts a (typed_assoc ws d colon e) =
+      words_starts a ws ++ (some_declr_starts a with_skeleton d ++ expr_starts a e)
   assoc_starts a (default_assoc keyword colon e) = expr_starts a e
 
   -- whether the value of a statement expression is that of its last item
@@ -178,7 +197,8 @@ abbrev mutual
 
   -- the skeletons that begin in the declarator of a member
   pub mem_declr_starts : Around → MemDeclr → List Start
-  mem_declr_starts a (named d width attrs) = declr_starts a with_skeleton without_skeleton d ++ some_value_starts a width
+  mem_declr_starts a (named d width attrs) =
+      declr_starts a with_skeleton without_skeleton d ++ some_value_starts a width
   mem_declr_starts a (unnamed colon e attrs) = expr_starts (quiet a) e
 
   -- the skeletons that begin in the value of an enumerator, if it has one
@@ -202,11 +222,13 @@ abbrev mutual
   declr_starts a h own (declr_name token name) = had_name h a token
   declr_starts a h own (declr_paren opening attrs d closing) = declr_starts a h own d
   declr_starts a h own (array d opening words size closing) = declr_starts a h own d ++ some_size_starts a size
-  declr_starts a h own (params d opening ps dots closing) = declr_starts a h own d ++ params_starts a (having_where (is_bare d) own) ps
+  declr_starts a h own (params d opening ps dots closing) =
+      declr_starts a h own d ++ params_starts a (having_where (is_bare d) own) ps
   declr_starts a h own (abs_pointer star words d) = some_declr_starts a h d
   declr_starts a h own (abs_paren opening attrs d closing) = declr_starts a h own d
   declr_starts a h own (abs_array d opening words size closing) = some_declr_starts a h d ++ some_size_starts a size
-  declr_starts a h own (abs_params d opening ps dots closing) = some_declr_starts a h d ++ params_starts a without_skeleton ps
+  declr_starts a h own (abs_params d opening ps dots closing) =
+      some_declr_starts a h d ++ params_starts a without_skeleton ps
   declr_starts a h own (identifiers d opening names closing) = declr_starts a h own d
   declr_starts a h own (base_name token) = []
 
@@ -242,7 +264,8 @@ abbrev mutual
   -- the skeletons that begin in the items of a list in braces
   pub init_items_starts : Around → InitItems → List Start
   init_items_starts a no_init_items = []
-  init_items_starts a (more_init_items ds equal init items) = desigs_starts a ds ++ (init_starts a init ++ init_items_starts a items)
+  init_items_starts a (more_init_items ds equal init items) =
+      desigs_starts a ds ++ (init_starts a init ++ init_items_starts a items)
 
   -- the skeletons that begin in designators
   pub desigs_starts : Around → Desigs → List Start
@@ -264,12 +287,14 @@ abbrev mutual
   -- the skeletons that begin in the declarators of a declaration
   pub init_declrs_starts : Around → InitDeclrs → List Start
   init_declrs_starts a no_init_declrs = []
-  init_declrs_starts a (more_init_declrs attrs d asm_label attrs2 init ds) = declr_starts a with_skeleton without_skeleton d ++ (some_init_starts a init ++ init_declrs_starts a ds)
+  init_declrs_starts a (more_init_declrs attrs d asm_label attrs2 init ds) =
+      declr_starts a with_skeleton without_skeleton d ++ (some_init_starts a init ++ init_declrs_starts a ds)
 
   -- of the declarations behind a list of identifiers: the names are parameters of the function
   pub old_declrs_starts : Around → Having → InitDeclrs → List Start
   old_declrs_starts a h no_init_declrs = []
-  old_declrs_starts a h (more_init_declrs attrs d asm_label attrs2 init ds) = declr_starts a h without_skeleton d ++ (some_init_starts a init ++ old_declrs_starts a h ds)
+  old_declrs_starts a h (more_init_declrs attrs d asm_label attrs2 init ds) =
+      declr_starts a h without_skeleton d ++ (some_init_starts a init ++ old_declrs_starts a h ds)
 
   -- the skeletons that begin in a declaration between the parameters of an old function and its body
   pub old_declaration_starts : Around → Having → Declaration → List Start
@@ -303,17 +328,20 @@ abbrev mutual
   stmt_starts a (label name colon attrs t) = stmt_starts a t
   stmt_starts a (case_stmt keyword e colon t) = expr_starts (quiet a) e ++ stmt_starts a t
   stmt_starts a (default_stmt keyword colon t) = stmt_starts a t
-  stmt_starts a (if_stmt keyword opening e closing t other) = expr_starts a e ++ (stmt_starts a t ++ some_else_starts a other)
+  stmt_starts a (if_stmt keyword opening e closing t other) =
+      expr_starts a e ++ (stmt_starts a t ++ some_else_starts a other)
   stmt_starts a (switch_stmt keyword opening e closing t) = expr_starts a e ++ stmt_starts a t
   stmt_starts a (while_stmt keyword opening e closing t) = expr_starts a e ++ stmt_starts a t
   stmt_starts a (do_stmt keyword t keyword2 opening e closing semi) = stmt_starts a t ++ expr_starts a e
-  stmt_starts a (for_stmt keyword opening start e semi e2 closing t) = for_start_starts a start ++ (some_expr_starts a e ++ (some_expr_starts a e2 ++ stmt_starts a t))
+  stmt_starts a (for_stmt keyword opening start e semi e2 closing t) =
+      for_start_starts a start ++ (some_expr_starts a e ++ (some_expr_starts a e2 ++ stmt_starts a t))
   stmt_starts a (goto_stmt keyword name semi) = []
   stmt_starts a (continue_stmt keyword semi) = []
   stmt_starts a (break_stmt keyword semi) = []
   stmt_starts a (return_stmt keyword e semi) = some_expr_starts a e
   stmt_starts a (asm_stmt keyword words group semi) = []
-  stmt_starts a (case_range keyword e dots e2 colon t) = expr_starts (quiet a) e ++ (expr_starts (quiet a) e2 ++ stmt_starts a t)
+  stmt_starts a (case_range keyword e dots e2 colon t) =
+      expr_starts (quiet a) e ++ (expr_starts (quiet a) e2 ++ stmt_starts a t)
   stmt_starts a (goto_value keyword star e semi) = expr_starts a e
 
   -- the skeletons that begin in the `else` of an `if`, if it has one
@@ -337,24 +365,35 @@ old_declarations_starts a h (d ∷ ds) = old_declaration_starts a h d ++ old_dec
 
 -- a declarator with a list of identifiers: the declarations behind it stand where those of parameters do
 abbrev pub old_declr_starts : Around → Having → List Declaration → Declr → List Start
-old_declr_starts a own ds (identifiers d opening names closing) = declr_starts a with_skeleton without_skeleton d ++ old_declarations_starts a own ds
+old_declr_starts a own ds (identifiers d opening names closing) =
+    declr_starts a with_skeleton without_skeleton d ++ old_declarations_starts a own ds
 old_declr_starts a own ds (pointer star words d) = old_declr_starts a own ds d
 old_declr_starts a own ds (declr_paren opening attrs d closing) = old_declr_starts a own ds d
 old_declr_starts a own ds (array d opening words size closing) = old_declr_starts a own ds d ++ some_size_starts a size
-old_declr_starts a own ds (params d opening ps dots closing) = old_declr_starts a own ds d ++ params_starts a without_skeleton ps
-old_declr_starts a own ds (declr_name token name) = declr_starts a with_skeleton without_skeleton (declr_name token name)
+old_declr_starts a own ds (params d opening ps dots closing) =
+    old_declr_starts a own ds d ++ params_starts a without_skeleton ps
+old_declr_starts a own ds (declr_name token name) =
+    declr_starts a with_skeleton without_skeleton (declr_name token name)
 old_declr_starts a own ds (base_name token) = []
-old_declr_starts a own ds (abs_pointer star words d) = declr_starts a with_skeleton without_skeleton (abs_pointer star words d)
-old_declr_starts a own ds (abs_paren opening attrs d closing) = declr_starts a with_skeleton without_skeleton (abs_paren opening attrs d closing)
-old_declr_starts a own ds (abs_array d opening words size closing) = declr_starts a with_skeleton without_skeleton (abs_array d opening words size closing)
-old_declr_starts a own ds (abs_params d opening ps dots closing) = declr_starts a with_skeleton without_skeleton (abs_params d opening ps dots closing)
+old_declr_starts a own ds (abs_pointer star words d) =
+    declr_starts a with_skeleton without_skeleton (abs_pointer star words d)
+old_declr_starts a own ds (abs_paren opening attrs d closing) =
+    declr_starts a with_skeleton without_skeleton (abs_paren opening attrs d closing)
+old_declr_starts a own ds (abs_array d opening words size closing) =
+    declr_starts a with_skeleton without_skeleton (abs_array d opening words size closing)
+old_declr_starts a own ds (abs_params d opening ps dots closing) =
+    declr_starts a with_skeleton without_skeleton (abs_params d opening ps dots closing)
 
 -- the skeletons that begin in an item of a unit; `access`: whether some lattice bounds accesses
 abbrev pub item_starts : Bool → Spelling → Names → Item → List Start
 item_starts access u s (function_item exts ws d attrs opening items closing) =
-    words_starts (around_in access u s None) ws ++ (declr_starts (around_in access u s None) with_skeleton (of_function (declared_function u s (declared_name d))) d ++ block_items_starts (around_in access u s (declared_function u s (declared_name d))) items)
+    words_starts (around_in access u s None) ws
+    ++ (declr_starts (around_in access u s None) with_skeleton (of_function (declared_function u s (declared_name d))) d
+    ++ block_items_starts (around_in access u s (declared_function u s (declared_name d))) items)
 item_starts access u s (old_function_item exts ws d attrs ds opening items closing) =
-    words_starts (around_in access u s None) ws ++ (old_declr_starts (around_in access u s None) (of_function (declared_function u s (declared_name d))) ds d ++ block_items_starts (around_in access u s (declared_function u s (declared_name d))) items)
+    words_starts (around_in access u s None) ws
+    ++ (old_declr_starts (around_in access u s None) (of_function (declared_function u s (declared_name d))) ds d
+    ++ block_items_starts (around_in access u s (declared_function u s (declared_name d))) items)
 item_starts access u s (decl_item d) = decl_starts (around_in access u s None) d
 item_starts access u s (asm_item keyword group semi) = []
 item_starts access u s (semi_item semi) = []

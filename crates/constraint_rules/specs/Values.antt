@@ -1,6 +1,5 @@
 -- The skeleton of each expression (Foster et al. 2006), by cases on the tree: that of a place, which is a reference to
--- what is in
--- it, or that of a value.
+-- what is in it, or that of a value.
 use Rattle.std.specs.Prelude.{ℕ, Bool, if◌then◌else◌, suc, List, [], ◌∷◌, false}
 use Rattle.c_tree.specs.Tree.{Expr, operation, cast, prefix, sizeof_value, sizeof_type, extension, index, call, dot, arrow, post, compound, name_use, number_use, char_use, text_use, paren, statement_expr, va_arg, va_start, va_copy, offset, comma, assign, cond, binary, no_expr, some_expr, BlockItems, no_block_items, more_block_items, BlockItem, block_decl, block_stmt, Stmt, expr_stmt, complex_part, label_use, compat, choose, generic, block_labels, Assocs, no_assocs, more_assocs, Assoc, typed_assoc, default_assoc}
 use Rattle.c_tree.specs.Ends.{first_text}
@@ -17,12 +16,14 @@ candidate it zero = record { val = it; is_zero = zero }
 
 module _ (w : World) where
   abbrev mutual
-    -- the value of an expression: its skeleton, or none yet
+    -- an expression as an operand: whether it is a place, and its skeleton
     pub val : Expr → Val
     val (operation e comma token e2) = a_value (value (val e2))
     val (operation e (assign p) token e2) = a_value (contents (val e).skel)
-    val (operation e (cond no_expr colon) token e2) = a_value (branch w (is_zero w.spelling w.names e) (is_zero w.spelling w.names e2) token (value (val e)) (value (val e2)))
-    val (operation e (cond (some_expr m) colon) token e2) = a_value (branch w (is_zero w.spelling w.names m) (is_zero w.spelling w.names e2) token (value (val m)) (value (val e2)))
+    val (operation e (cond no_expr colon) token e2) = a_value
+        (branch w (is_zero w.spelling w.names e) (is_zero w.spelling w.names e2) token (value (val e)) (value (val e2)))
+    val (operation e (cond (some_expr m) colon) token e2) = a_value
+        (branch w (is_zero w.spelling w.names m) (is_zero w.spelling w.names e2) token (value (val m)) (value (val e2)))
     val (operation e (binary p) token e2) = a_value (binary_of p (value (val e)) (value (val e2)) (own w token))
     val (cast opening ws d closing e) = a_value (own w opening)
     val (prefix token p e) = prefix_of w token p (val e) (comes_by_pointer false e)
@@ -48,13 +49,17 @@ module _ (w : World) where
     val (complex_part keyword e) = val e
     val (label_use token name) = a_value (own w token)
     val (compat keyword opening ws d separator ws2 d2 closing) = a_value (own w keyword)
-    val (choose keyword opening e separator e2 separator2 e3 closing) = pick_of (own w keyword) (candidate (val e2) (is_zero w.spelling w.names e2) ∷ candidate (val e3) (is_zero w.spelling w.names e3) ∷ [])
+    val (choose keyword opening e separator e2 separator2 e3 closing) =
+        pick_of (own w keyword)
+        (candidate (val e2) (is_zero w.spelling w.names e2) ∷ candidate (val e3) (is_zero w.spelling w.names e3) ∷ [])
     val (generic keyword opening e xs closing) = pick_of (own w keyword) (candidates_of keyword 0 xs)
 
     -- those associations of the selection at a token that are candidates, the first of which has this number
     pub candidates_of : ℕ → ℕ → Assocs → List Candidate
     candidates_of token i no_assocs = []
-    candidates_of token i (more_assocs x xs) = if w.candidate (at w token) i then candidate_in x ∷ candidates_of token (suc i) xs else candidates_of token (suc i) xs
+    candidates_of token i (more_assocs x xs) =
+        if w.candidate (at w token) i then candidate_in x ∷ candidates_of token (suc i) xs
+        else candidates_of token (suc i) xs
 
     -- an association as a candidate
     pub candidate_in : Assoc → Candidate
@@ -65,7 +70,8 @@ module _ (w : World) where
     pub items_value : ℕ → BlockItems → Skel
     items_value token no_block_items = own w token
     items_value token (more_block_items item no_block_items) = item_value token item
-    items_value token (more_block_items item (more_block_items item2 items)) = items_value token (more_block_items item2 items)
+    items_value token (more_block_items item (more_block_items item2 items)) =
+        items_value token (more_block_items item2 items)
 
     -- the skeleton that the last item of a block leaves
     pub item_value : ℕ → BlockItem → Skel

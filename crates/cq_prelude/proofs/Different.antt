@@ -38,7 +38,8 @@ none_count n [] h = All-nil (IsOther n)
 none_count n (x ∷ xs) h =
     let split = sum_by-cons (one_at n) x xs in
     let same = one_same n in
-    All-cons (IsOther n) x xs (λ is. let first : one_at n x ≡ 1 = subst (λ (m : ℕ). one_at n m ≡ 1) is same in absurd (omega arith))
+    All-cons (IsOther n) x xs (λ is. let first : one_at n x ≡ 1 = subst (λ (m : ℕ). one_at n m ≡ 1) is same in
+    absurd (omega arith))
     (none_count n xs (omega arith))
 
 when_is : (b : Bool) → b ≡ true → cond {A = ℕ} b 1 0 ≡ 1
@@ -52,8 +53,14 @@ different_count : (xs : List ℕ) → AreDifferent xs → (n : ℕ) → count n 
 different_count [] h n = omega arith
 different_count (x ∷ xs) h n = ⊎_elim
     (λ (same : (eqb x n ≡ true) × (x ≡ n)).
-    omega (arith, sum_by-cons (one_at n) x xs, when_is _ same.0, count_none n xs (subst (λ (m : ℕ). All (IsOther m) xs) same.1 h.0)))
-    (λ (other : (eqb x n ≡ false) × (x ≢ n)). omega (arith, sum_by-cons (one_at n) x xs, when_not _ other.0, different_count xs h.1 n))
+    omega (
+      arith,
+      sum_by-cons (one_at n) x xs,
+      when_is _ same.0,
+      count_none n xs (subst (λ (m : ℕ). All (IsOther m) xs) same.1 h.0),
+    ))
+    (λ (other : (eqb x n ≡ false) × (x ≢ n)).
+    omega (arith, sum_by-cons (one_at n) x xs, when_not _ other.0, different_count xs h.1 n))
     (eqb_tells x n)
 
 -- a list in which each number is counted at most once has different numbers
@@ -65,13 +72,15 @@ count_different (x ∷ xs) h = (
 )
 
 pub permuted : (xs ys : List ℕ) → IsPermutation xs ys → AreDifferent xs → AreDifferent ys
-permuted xs ys moved h = count_different ys (λ n. omega (arith, different_count xs h n, sum_by-IsPermutation (one_at n) xs ys moved))
+permuted xs ys moved h =
+    count_different ys (λ n. omega (arith, different_count xs h n, sum_by-IsPermutation (one_at n) xs ys moved))
 
 -- in an ascending list all numbers behind the first are above it
 above : (x : ℕ) (xs : List ℕ) → AreAscending (x ∷ xs) → All (λ y. x < y) xs
 above x [] h = All-nil (λ y. x < y)
 above x (y ∷ ys) h =
-    All-cons (λ y. x < y) y ys h.0 (All-weaker (λ z. y < z) (λ z. x < z) (λ z lt. let first = h.0 in omega arith) ys (above y ys h.1))
+    All-cons (λ y. x < y) y ys h.0
+    (All-weaker (λ z. y < z) (λ z. x < z) (λ z lt. let first = h.0 in omega arith) ys (above y ys h.1))
 
 rest_ascends : (x : ℕ) (xs : List ℕ) → AreAscending (x ∷ xs) → AreAscending xs
 rest_ascends x [] h = tt
@@ -80,8 +89,10 @@ rest_ascends x (y ∷ ys) h = h.1
 -- the numbers of an ascending list are different
 ascending_different : (xs : List ℕ) → AreAscending xs → AreDifferent xs
 ascending_different [] h = tt
-ascending_different (x ∷ xs) h =
-    (All-weaker (λ y. x < y) (IsOther x) (λ y lt is. omega arith) xs (above x xs h), ascending_different xs (rest_ascends x xs h))
+ascending_different (x ∷ xs) h = (
+  All-weaker (λ y. x < y) (IsOther x) (λ y lt is. omega arith) xs (above x xs h),
+  ascending_different xs (rest_ascends x xs h),
+)
 
 -- a list in which each number is below the next one ascends
 ascends : (xs : List ℕ) → ((k d : ℕ) → suc k < length xs → get_or xs k d < get_or xs (suc k) d) → AreAscending xs
@@ -105,7 +116,8 @@ different_places (x ∷ xs) h (suc k) d lt = different_places xs h.1 k d (omega 
 -- numbers that do not fall ascend, where no two are equal
 pub rises : (xs : List ℕ) → IsNonDecreasing xs → AreDifferent xs → AreAscending xs
 rises xs rising h =
-    ascends xs (λ k d lt. let le = rising k (suc k) d (omega arith) lt in let other = different_places xs h k d lt in omega arith)
+    ascends xs (λ k d lt. let le = rising k (suc k) d (omega arith) lt in
+    let other = different_places xs h k d lt in omega arith)
 
 pub is_ascending : (xs : List ℕ) (r : Bool) → IsAllAdjacentAnswer (λ x y b. b ≡ ltb x y) xs r → r ≡ true
     → AreAscending xs

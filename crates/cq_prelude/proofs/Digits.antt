@@ -23,7 +23,8 @@ behind_drop digits i n lt = rw (add-one, drop-cons digits i 0 lt) refl
 
 -- one digit more, within the limit, keeps what is read the number of the digits so far
 pub goes_on : (digits : List ℕ) (i number next : ℕ) → AreReadTo digits i number → i < length digits →
-    IsDigit (get_or digits i 0) × (next ≡ number * 10 + (get_or digits i 0 - 48)) × (next ≤ most_index) → AreReadTo digits (i + 1) next
+    IsDigit (get_or digits i 0) × (next ≡ number * 10 + (get_or digits i 0 - 48)) × (next ≤ most_index)
+    → AreReadTo digits (i + 1) next
 goes_on digits i number next h lt one = record {
   left = ap (λ n. number_behind n (drop (i + 1) digits)) one.1 ∙ sym (behind_drop digits i number lt) ∙ h.left;
   decimal = All-more IsDigit digits i 0 lt h.decimal one.0;

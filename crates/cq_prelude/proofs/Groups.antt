@@ -19,13 +19,15 @@ onto c rest (part ∷ parts) is = ap (λ (bytes : List ℕ). 95 ∷ c ∷ bytes)
 flat : (bytes : List ℕ) → flat_map group (slice_split is_low_line bytes) ≡ 95 ∷ bytes
 flat [] = refl
 flat (c ∷ bytes) = ⊎_elim
-    (λ (same : (eqb c 95 ≡ true) × (c ≡ 95)). rw (slice_split-cons_yes is_low_line c bytes same.0, flat bytes, same.1) refl)
+    (λ (same : (eqb c 95 ≡ true) × (c ≡ 95)).
+    rw (slice_split-cons_yes is_low_line c bytes same.0, flat bytes, same.1) refl)
     (λ (other : (eqb c 95 ≡ false) × (c ≢ 95)). rw (slice_split-cons_no is_low_line c bytes other.0)
     (onto c bytes (slice_split is_low_line bytes) (flat bytes)))
     (eqb_tells c 95)
 
 no_low_line : (digits : List ℕ) → IsNumeral digits → All (λ c. is_low_line c ≡ false) digits
-no_low_line digits h = All-weaker IsDigit (λ c. is_low_line c ≡ false) (λ c is. ne_eqb c 95 (λ same. omega arith)) digits h.decimal
+no_low_line digits h =
+    All-weaker IsDigit (λ c. is_low_line c ≡ false) (λ c is. ne_eqb c 95 (λ same. omega arith)) digits h.decimal
 
 -- groups of digits are the parts again
 cut : (digits : List ℕ) (groups : List (List ℕ)) → IsNumeral digits → All IsNumeral groups →
@@ -60,7 +62,10 @@ within (g ∷ gs) [] h = absurd h
 within (g ∷ gs) (n ∷ ns) h = All-cons (λ n. n ≤ most_index) n ns h.0.within (within gs ns h.1)
 
 some_parts : (bytes : List ℕ) → slice_split is_low_line bytes ≢ []
-some_parts bytes is = let all = flat bytes in let none : flat_map group (slice_split is_low_line bytes) ≡ [] = rw is refl in cc
+some_parts bytes is =
+    let all = flat bytes in
+    let none : flat_map group (slice_split is_low_line bytes) ≡ [] = rw is refl in
+    cc
 
 -- a dollar, a low line and bytes that say different numbers are an index word of these
 is_word : (bytes numbers : List ℕ) → SayAll bytes numbers → AreDifferent numbers → IsIndexWord (36 ∷ 95 ∷ bytes) numbers
@@ -122,7 +127,8 @@ pub one_written : (groups : List (List ℕ)) (numbers : List ℕ) (i : ℕ) (g :
     g ≡ get_or groups i g → (n : ℕ) × IsWritten g n
 one_written [] numbers i g all lt is = absurd (omega arith)
 one_written (first ∷ groups) [] i g all lt is = absurd all
-one_written (first ∷ groups) (m ∷ numbers) zero g all lt is = (m, subst (λ (digits : List ℕ). IsWritten digits m) (sym is) all.0)
+one_written (first ∷ groups) (m ∷ numbers) zero g all lt is =
+    (m, subst (λ (digits : List ℕ). IsWritten digits m) (sym is) all.0)
 one_written (first ∷ groups) (m ∷ numbers) (suc i) g all lt is = one_written groups numbers i g all.1 (omega arith) is
 
 -- what a word has behind `$_` says its numbers
@@ -136,7 +142,8 @@ pub says_different : (bytes rest ours theirs : List ℕ) → bytes ≡ 36 ∷ 95
     → IsIndexWord bytes theirs →
     AreDifferent ours
 says_different bytes rest ours theirs is h word =
-    subst AreDifferent (numbers_are _ theirs (says_of bytes rest theirs is word) ∙ sym (numbers_are _ ours h)) word.different
+    subst AreDifferent
+    (numbers_are _ theirs (says_of bytes rest theirs is word) ∙ sym (numbers_are _ ours h)) word.different
 
 -- an index word that says different numbers says the set of them in ascending order
 pub set_of : (bytes rest numbers set : List ℕ) → bytes ≡ 36 ∷ 95 ∷ rest → SayAll rest numbers → Arranges numbers set

@@ -19,7 +19,8 @@ here : (marks : List IndexMark) (at : ℕ) (set : List ℕ) → All (λ it. it.t
 here [] at set h = rw (eq-eqb at at refl) refl
 here (it ∷ marks) at set h =
     let below = All-head (λ (it : IndexMark). it.token < at) it marks h in
-    rw (ne_eqb it.token at (λ same. omega arith)) (here marks at set (All-tail (λ (it : IndexMark). it.token < at) it marks h))
+    rw (ne_eqb it.token at (λ same. omega arith))
+    (here marks at set (All-tail (λ (it : IndexMark). it.token < at) it marks h))
 
 -- a mark at another token leaves the numbers of a token as they were
 elsewhere : (marks : List IndexMark) (at token : ℕ) (set : List ℕ) → token ≢ at →
@@ -29,11 +30,13 @@ elsewhere (it ∷ marks) at token set other =
     ap (λ (rest : List ℕ). cond (eqb it.token token) it.numbers rest) (elsewhere marks at token set other)
 
 last : (token at : ℕ) → token < at + 1 → (token < at) ⊎ (token ≡ at)
-last token at lt = ⊎_elim (λ (below : token < at). inl below) (λ (le : at ≤ token). inr (omega arith)) (cases_lt token at)
+last token at lt =
+    ⊎_elim (λ (below : token < at). inl below) (λ (le : at ≤ token). inr (omega arith)) (cases_lt token at)
 
 below_more : (marks : List IndexMark) (at : ℕ) → All (λ it. it.token < at) marks → All (λ it. it.token < at + 1) marks
 below_more marks at h =
-    All-weaker (λ (it : IndexMark). it.token < at) (λ (it : IndexMark). it.token < at + 1) (λ it lt. omega arith) marks h
+    All-weaker (λ (it : IndexMark). it.token < at) (λ (it : IndexMark). it.token < at + 1)
+    (λ it lt. omega arith) marks h
 
 -- a right index word, at the end of what is marked so far, keeps the marks right with its own at the end
 pub marks_word : (lexed : Lexed) (flags : List Bool) (at : ℕ) (marks : List IndexMark) (set : List ℕ)
@@ -41,11 +44,13 @@ pub marks_word : (lexed : Lexed) (flags : List Bool) (at : ℕ) (marks : List In
     IsIndex lexed at → is_marked flags at ≡ true → Says lexed at set →
     AreMarkedTo lexed flags (at + 1) (marks ++ mark_at at set ∷ [])
 marks_word lexed flags at marks set h index is_placed says = record {
-  before = All-push (λ (it : IndexMark). it.token < at + 1) marks (mark_at at set) (below_more marks at h.before) (omega arith);
+  before = All-push (λ (it : IndexMark). it.token < at + 1) marks (mark_at at set) (below_more marks at h.before)
+      (omega arith);
   placed = λ token lt is. ⊎_elim (λ (below : token < at). h.placed token below is)
       (λ (same : token ≡ at). subst (λ (n : ℕ). is_marked flags n ≡ true) (sym same) is_placed) (last token at lt);
   said = λ token lt is. ⊎_elim
-      (λ (below : token < at). subst (Says lexed token) (sym (elsewhere marks at token set (λ same. omega arith))) (h.said token below is))
+      (λ (below : token < at).
+      subst (Says lexed token) (sym (elsewhere marks at token set (λ same. omega arith))) (h.said token below is))
       (λ (same : token ≡ at). subst (λ (n : ℕ). Says lexed n (numbers_at (marks ++ mark_at at set ∷ []) n)) (sym same)
       (subst (Says lexed at) (sym (here marks at set h.before)) says))
       (last token at lt);
@@ -71,6 +76,7 @@ text_is lexed at bytes is = by_token (slice_get lexed.tokens at) refl where
       rw (start, end) (sym e)
 
 pub set_says : (lexed : Lexed) (at : ℕ) (bytes set : List ℕ) →
-    option_map (λ (token : Token). slice_range lexed.bytes token.start token.end) (slice_get lexed.tokens at) ≡ Some bytes →
+    option_map (λ (token : Token). slice_range lexed.bytes token.start token.end) (slice_get lexed.tokens at)
+    ≡ Some bytes →
     Says lexed at set → IsSetOf bytes set
 set_says lexed at bytes set is h = subst (λ (text : List ℕ). IsSetOf text set) (sym (text_is lexed at bytes is)) h

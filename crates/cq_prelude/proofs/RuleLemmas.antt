@@ -54,18 +54,18 @@ least_is best (token ∷ tokens) =
       next.1,
       record {
         one = ⊎_elim
-            (λ (is : least_with (Some best) token ≡ next.0). ⊎_elim
-            (λ (first : least_with (Some best) token ≡ best).
+            (λ (is : least_with (Some best) token ≡ next.0). ⊎_elim (λ (first : least_with (Some best) token ≡ best).
             subst (Contains (best ∷ token ∷ tokens)) (sym first ∙ is) (first_of best (token ∷ tokens)))
-            (λ (second : least_with (Some best) token ≡ token).
-            subst (Contains (best ∷ token ∷ tokens)) (sym second ∙ is) (behind best (token ∷ tokens) token (first_of token tokens)))
-            lesser.2)
+            (λ (second : least_with (Some best) token ≡ token). subst (Contains (best ∷ token ∷ tokens))
+            (sym second ∙ is) (behind best (token ∷ tokens) token (first_of token tokens))) lesser.2)
             (λ (has : Contains tokens next.0). behind best (token ∷ tokens) next.0 (behind token tokens next.0 has))
             (cases_of _ tokens next.0 next.2.one);
         least = λ other has. ⊎_elim
-            (λ (is : best ≡ other). let le = next.2.least _ (first_of (least_with (Some best) token) tokens) in omega (arith, lesser.0))
+            (λ (is : best ≡ other). let le = next.2.least _ (first_of (least_with (Some best) token) tokens) in
+            omega (arith, lesser.0))
             (λ (rest : Contains (token ∷ tokens) other). ⊎_elim
-            (λ (is : token ≡ other). let le = next.2.least _ (first_of (least_with (Some best) token) tokens) in omega (arith, lesser.1))
+            (λ (is : token ≡ other). let le = next.2.least _ (first_of (least_with (Some best) token) tokens) in
+            omega (arith, lesser.1))
             (λ (later : Contains tokens other). next.2.least other (behind _ tokens other later))
             (cases_of token tokens other rest))
             (cases_of best (token ∷ tokens) other has);
@@ -76,15 +76,20 @@ least_is best (token ∷ tokens) =
 found_is : (tokens : List ℕ) (found : ℕ) → least_behind None tokens ≡ Some found → IsLeast tokens found
 found_is [] found is = absurd (cc)
 found_is (token ∷ tokens) found is =
-    let h = least_is token tokens in let same : h.0 ≡ found = let e = h.1 in cc in subst (IsLeast (token ∷ tokens)) same h.2
+    let h = least_is token tokens in
+    let same : h.0 ≡ found = let e = h.1 in cc in
+    subst (IsLeast (token ∷ tokens)) same h.2
 
 none_is : (tokens : List ℕ) → least_behind None tokens ≡ None → tokens ≡ []
 none_is [] is = refl
 none_is (token ∷ tokens) is = let h = least_is token tokens in let e = h.1 in absurd (cc)
 
-module _ (lexed : Lexed) (items : List Item) (flags : List Bool) (flagged : AreFlags (length lexed.tokens) (index_places items) flags) where
+module _ (lexed : Lexed) (items : List Item) (flags : List Bool)
+    (flagged : AreFlags (length lexed.tokens) (index_places items) flags) where
   is_there : (token : ℕ) → IsIndex lexed token → token < length lexed.tokens
-  is_there token is = ⊎_elim (λ (lt : token < length lexed.tokens). lt) (λ (le : length lexed.tokens ≤ token). absurd (past token le is))
+  is_there token is =
+      ⊎_elim (λ (lt : token < length lexed.tokens). lt)
+      (λ (le : length lexed.tokens ≤ token). absurd (past token le is))
       (cases_lt token (length lexed.tokens)) where
         past : (token : ℕ) → length lexed.tokens ≤ token → IsIndex lexed token → ⊥
         past token le is = let none = slice_get_past lexed.tokens token le in let h = rw none at is in cc
@@ -100,16 +105,20 @@ module _ (lexed : Lexed) (items : List Item) (flags : List Bool) (flagged : AreF
 
   all_right : (marks : List IndexMark) → AreMarkedTo lexed flags (length lexed.tokens) marks → (token : ℕ) →
       Fails lexed items bad_index token → ⊥
-  all_right marks h token fails = fails.1 (right_before (length lexed.tokens) marks h token (is_there token fails.0) fails.0)
+  all_right marks h token fails =
+      fails.1 (right_before (length lexed.tokens) marks h token (is_there token fails.0) fails.0)
 
   bad_fails : (token : ℕ) → IsBad lexed flags token → Fails lexed items bad_index token
-  bad_fails token bad =
-      (bad.index, λ right. bad.wrong ((flagged.tell token (is_there token bad.index)).1 right.placed) right.set right.says)
+  bad_fails token bad = (
+    bad.index,
+    λ right. bad.wrong ((flagged.tell token (is_there token bad.index)).1 right.placed) right.set right.says,
+  )
 
   none_below : (end : ℕ) (marks : List IndexMark) → AreMarkedTo lexed flags end marks → (token : ℕ)
       → Fails lexed items bad_index token →
       end ≤ token
-  none_below end marks h token fails = ⊎_elim (λ (lt : token < end). absurd (fails.1 (right_before end marks h token lt fails.0)))
+  none_below end marks h token fails =
+      ⊎_elim (λ (lt : token < end). absurd (fails.1 (right_before end marks h token lt fails.0)))
       (λ (le : end ≤ token). le) (cases_lt token end)
 
   pub none_fails : (body : Option ℕ) (marks : List IndexMark) → body ≡ least_behind None (bodies items) → body ≡ None →
@@ -142,15 +151,21 @@ module _ (lexed : Lexed) (items : List Item) (flags : List Bool) (flagged : AreF
     before bad_index earlier fails = none_below at marks h earlier fails
   first_is (Some opening) at marks some h bad = ⊎_elim
       (λ (lt : ltb opening at ≡ true).
-      rw lt (record { fails = (found_is (bodies items) opening (sym some)).one; none_before = before_body (ltb-true opening at lt) }))
-      (λ (ge : ltb opening at ≡ false). rw ge (record { fails = bad_fails at bad; none_before = before_word (ltb-false opening at ge) }))
+      rw lt (record {
+        fails = (found_is (bodies items) opening (sym some)).one;
+        none_before = before_body (ltb-true opening at lt);
+      }))
+      (λ (ge : ltb opening at ≡ false).
+      rw ge (record { fails = bad_fails at bad; none_before = before_word (ltb-false opening at ge) }))
       (cases_Bool (ltb opening at)) where
         before_body : opening < at → (other : Rule) (earlier : ℕ) → Fails lexed items other earlier → opening ≤ earlier
         before_body lt has_body earlier fails = (found_is (bodies items) opening (sym some)).least earlier fails
         before_body lt bad_index earlier fails = let le = none_below at marks h earlier fails in omega arith
 
         before_word : at ≤ opening → (other : Rule) (earlier : ℕ) → Fails lexed items other earlier → at ≤ earlier
-        before_word le has_body earlier fails = let least = (found_is (bodies items) opening (sym some)).least earlier fails in omega arith
+        before_word le has_body earlier fails =
+            let least = (found_is (bodies items) opening (sym some)).least earlier fails in
+            omega arith
         before_word le bad_index earlier fails = none_below at marks h earlier fails
 
   pub with_body_is : (body : Option ℕ) (fault : RuleFault) → body ≡ least_behind None (bodies items)

@@ -1,15 +1,17 @@
 -- What is answered of bytes that are no prelude, step by step.
-use Rattle.std.specs.Prelude.{◌≡◌, ◌≢◌, ℕ, [], ◌∷◌, Option, None, Some, IfSome, Result, Ok, Err}
+use Rattle.std.specs.Prelude.{◌≡◌, ℕ, [], ◌∷◌, Result, Ok, Err}
 use Rattle.qual_base.specs.declared.places.Spot.{Spot}
 use Rattle.c_lexer.specs.Tokens.{Lexed}
 use Rattle.c_lexer.specs.declared.lexing.LexFault.{LexFault}
 use Rattle.c_lexer.specs.declared.lexing.LexFault.TheVariants.{BadByte, NoMemory as NoRoom, Unended, UnknownQualifier}
-use Rattle.c_parser.specs.declared.parsing.ParseFault.{ParseFault}
+use Rattle.reader_base.specs.declared.fault.ReadError.{ReadError}
+use Rattle.reader_base.specs.declared.fault.ReadError.TheVariants.{Fault as Refused, NoMemory as OutOfRoom}
 use Rattle.type_rules.specs.Program.{faults_of}
-use Rattle.name_rules.specs.Faults.{Fault}
+use Rattle.name_rules.specs.Faults as rules
+use Rattle.unit_shapes.specs.declared.fault.Fault.{Fault}
+use Rattle.unit_shapes.specs.Faults.{fault_of}
 use Rattle.unit_types.specs.declared.fault.ShapeFault.{ShapeFault}
-use Rattle.unit_types.specs.declared.fault.ShapeFault.TheVariants.{NoMemory as OutOfNames}
-use Rattle.unit_types.specs.Faults.{IsFirstUnlessMemory, fault_in}
+use Rattle.unit_types.specs.declared.fault.ShapeFault.TheVariants.{Found, NoMemory as OutOfNames}
 use Rattle.c_types.specs.Sources.{UnitRead, sources_in, unit_of}
 use Rattle.cq_prelude.specs.Preludes.{spot_of}
 use Rattle.cq_prelude.specs.Rules.{IsFirst, NoneFails, bad_index, has_body}
@@ -27,9 +29,9 @@ placed_lex (UnknownQualifier spot) = Lex (UnknownQualifier spot)
 placed_lex NoRoom = NoMemory
 
 -- what a fault of the grammar says of a prelude, at the token that it names
-abbrev pub placed_parse : Lexed → ParseFault → Option ℕ → PreludeFault
-placed_parse lexed fault None = NoMemory
-placed_parse lexed fault (Some token) = Parse fault (spot_of lexed token)
+abbrev pub placed_parse : Lexed → ReadError → PreludeFault
+placed_parse lexed (Refused rule token) = Parse rule (spot_of lexed token)
+placed_parse lexed OutOfRoom = NoMemory
 
 -- what a fault of the rules of a prelude says, at its token
 abbrev pub placed_rule : Lexed → RuleFault → PreludeFault
@@ -38,15 +40,14 @@ placed_rule lexed (BadWord token) = BadIndex (spot_of lexed token)
 placed_rule lexed OutOfRules = NoMemory
 
 -- what a fault of names and types says of a prelude, at the token that it names
-abbrev pub placed_shape : Lexed → ShapeFault → Option ℕ → PreludeFault
-placed_shape lexed fault None = NoMemory
-placed_shape lexed fault (Some token) = Shape fault (spot_of lexed token)
+abbrev pub placed_shape : Lexed → ShapeFault → PreludeFault
+placed_shape lexed (Found it) = Shape it (spot_of lexed it.at.1)
+placed_shape lexed OutOfNames = NoMemory
 
 -- the first fault of names and types of a unit by itself, at this place
-pub record IsShaped (it : UnitRead) (fault : ShapeFault) (spot : Spot) : Type 0 where
-  pub reason : fault ≢ OutOfNames
-  pub first : IsFirstUnlessMemory fault (faults_of (sources_in (it ∷ [])))
-  pub place : IfSome (fault_in fault) (λ (f : Fault). spot ≡ spot_of it.lexed f.at.1)
+pub record IsShaped (it : UnitRead) (fault : Fault) (spot : Spot) : Type 0 where
+  pub first : rules.IsFirst (fault_of fault) (faults_of (sources_in (it ∷ [])))
+  pub place : spot ≡ spot_of it.lexed fault.at.1
 
 -- the names and types of a unit have this fault; want of memory may come anywhere
 abbrev pub IsShapeFaultIn : UnitRead → PreludeFault → Type 0

@@ -31,7 +31,8 @@ pub record IsBad (lexed : Lexed) (flags : List Bool) (token : ℕ) : Type 0 wher
 -- the first such word; want of memory may come anywhere
 abbrev pub IsFirstBad : Lexed → List Bool → RuleFault → Type 0
 IsFirstBad lexed flags (HasBody token) = ⊥
-IsFirstBad lexed flags (BadIndex token) = (marks : List IndexMark) × AreMarkedTo lexed flags token marks × IsBad lexed flags token
+IsFirstBad lexed flags (BadIndex token) =
+    (marks : List IndexMark) × AreMarkedTo lexed flags token marks × IsBad lexed flags token
 IsFirstBad lexed flags NoMemory = Unit {0}
 
 -- the first of a body that may be there and a bad index word

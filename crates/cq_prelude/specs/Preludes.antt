@@ -1,5 +1,5 @@
 -- Which bytes are a prelude, and why others are none.
-use Rattle.std.specs.Prelude.{◌≡◌, ◌≢◌, ℕ, List, [], ◌∷◌, length, nat_lt, Option, None, Some, IfSome, if◌then◌else◌, Bool}
+use Rattle.std.specs.Prelude.{◌≡◌, ◌≢◌, ℕ, List, [], ◌∷◌, length, nat_lt, if◌then◌else◌, Bool}
 use Rattle.qual_base.specs.declared.places.Spot.{Spot}
 use Rattle.c_lexer.specs.Reading.{Meanings}
 use Rattle.c_lexer.specs.Refusals.{IsRefusal}
@@ -8,12 +8,10 @@ use Rattle.c_lexer.specs.declared.lexing.LexFault.TheVariants.{NoMemory as NoRoo
 use Rattle.c_units.specs.Units.{IsWellFormed}
 use Rattle.c_parser.specs.Parsing.{lexemes_of}
 use Rattle.c_parser.specs.Refusing.{IsUnitRefusal}
-use Rattle.c_parser.specs.declared.parsing.ParseFault.{ParseFault}
-use Rattle.c_parser.specs.declared.parsing.ParseFault.TheVariants.{BadMix, BadTarget, NoMemory as OutOfRoom, Redeclared, Syntax, TooDeep}
+use Rattle.reader_base.specs.declared.fault.ReadError.TheVariants.{Fault as Refused}
 use Rattle.type_rules.specs.Program.{HasNoFault, faults_of}
-use Rattle.name_rules.specs.Faults.{Fault}
-use Rattle.unit_types.specs.Faults.{IsFirstUnlessMemory, fault_in}
-use Rattle.unit_types.specs.declared.fault.ShapeFault.TheVariants.{NoMemory as OutOfNames}
+use Rattle.name_rules.specs.Faults as rules
+use Rattle.unit_shapes.specs.Faults.{fault_of}
 use Rattle.c_types.specs.Sources.{UnitRead, sources_in}
 use Rattle.index_words.specs.Marks.{IndexMark}
 use Rattle.cq_prelude.specs.Rules.{AreMarks, IsFirst, NoneFails, bad_index, has_body}
@@ -33,22 +31,13 @@ pub record Parses (wide : Bool) (words : Meanings) (bytes : List ℕ) (it : Unit
   pub formed : IsWellFormed it.lexed.wide (lexemes_of it.lexed) it.items
 
 -- The bytes are a prelude: a well-formed unit without bodies of functions, whose index words are right, and whose names
--- and types have
--- no fault.
-pub record IsPrelude (wide : Bool) (words : Meanings) (bytes : List ℕ) (it : UnitRead) (marks : List IndexMark) : Type 0 where
+-- and types have no fault.
+pub record IsPrelude (wide : Bool) (words : Meanings) (bytes : List ℕ) (it : UnitRead)
+    (marks : List IndexMark) : Type 0 where
   pub parses : Parses wide words bytes it
   pub rules : NoneFails it.lexed it.items
   pub marks_are : AreMarks it.lexed marks
   pub shaped : HasNoFault (sources_in (it ∷ []))
-
--- the token that is refused
-abbrev pub refused_at : ParseFault → Option ℕ
-refused_at (Syntax token) = Some token
-refused_at (TooDeep token) = Some token
-refused_at (Redeclared token) = Some token
-refused_at (BadMix token) = Some token
-refused_at (BadTarget token) = Some token
-refused_at OutOfRoom = None
 
 -- the place of a token, and the first one of the file where there is no such token
 abbrev pub spot_of : Lexed → ℕ → Spot
@@ -59,14 +48,16 @@ spot_of lexed token =
 -- Why the bytes are no prelude, in the order in which that is found out; want of memory may come anywhere.
 abbrev pub IsFaultOf : Bool → Meanings → List ℕ → PreludeFault → Type 0
 IsFaultOf wide words bytes (Lex fault) = IsRefusal 0 wide words bytes fault × (fault ≢ NoRoom)
-IsFaultOf wide words bytes (Parse fault spot) =
-    (lexed : Lexed) × Lexes wide words bytes lexed × (fault ≢ OutOfRoom) × IsUnitRefusal lexed fault
-    × IfSome (refused_at fault) (λ token. spot ≡ spot_of lexed token)
+IsFaultOf wide words bytes (Parse rule spot) =
+    (lexed : Lexed) × (token : ℕ) × Lexes wide words bytes lexed × IsUnitRefusal lexed (Refused rule token)
+    × (spot ≡ spot_of lexed token)
 IsFaultOf wide words bytes (HasBody spot) =
-    (it : UnitRead) × (token : ℕ) × Parses wide words bytes it × IsFirst it.lexed it.items has_body token × (spot ≡ spot_of it.lexed token)
+    (it : UnitRead) × (token : ℕ) × Parses wide words bytes it × IsFirst it.lexed it.items has_body token
+    × (spot ≡ spot_of it.lexed token)
 IsFaultOf wide words bytes (BadIndex spot) =
-    (it : UnitRead) × (token : ℕ) × Parses wide words bytes it × IsFirst it.lexed it.items bad_index token × (spot ≡ spot_of it.lexed token)
+    (it : UnitRead) × (token : ℕ) × Parses wide words bytes it × IsFirst it.lexed it.items bad_index token
+    × (spot ≡ spot_of it.lexed token)
 IsFaultOf wide words bytes (Shape fault spot) =
-    (it : UnitRead) × Parses wide words bytes it × NoneFails it.lexed it.items × (fault ≢ OutOfNames)
-    × IsFirstUnlessMemory fault (faults_of (sources_in (it ∷ []))) × IfSome (fault_in fault) (λ (f : Fault). spot ≡ spot_of it.lexed f.at.1)
+    (it : UnitRead) × Parses wide words bytes it × NoneFails it.lexed it.items
+    × rules.IsFirst (fault_of fault) (faults_of (sources_in (it ∷ []))) × (spot ≡ spot_of it.lexed fault.at.1)
 IsFaultOf wide words bytes NoMemory = Unit {0}

@@ -10,8 +10,6 @@ mod left;
 mod placing;
 mod reading;
 mod rules;
-#[cfg(test)]
-mod tests;
 mod word;
 
 pub use fault::PreludeFault;

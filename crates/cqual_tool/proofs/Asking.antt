@@ -12,4 +12,5 @@ pub counted : (named : FileNames) (files : FileWords) (question : Question)
     → IsSourceCount (length named.sources)
 counted named files question is count =
     subst IsSourceCount
-    (sym (ap (λ (it : FileNames). length it.sources) is ∙ length-map files.sources.items (λ (name : Bor (List ℕ)). name.now))) count
+    (sym (ap (λ (it : FileNames). length it.sources) is
+    ∙ length-map files.sources.items (λ (name : Bor (List ℕ)). name.now))) count

@@ -26,14 +26,16 @@ use Rattle.cqual_tool.specs.Signing.{MaySign, externals_held}
 use Rattle.cqual_tool.proofs.Joining.{texts_apart}
 
 module _ (lattices : List LatticeView) (marks : List IndexMark) (units : List UnitRead) (it : Ready)
-    (are : it.tokens.items ≡ lexed_of units) (functions : it.functions.items ≡ functions_in (names_of (sources_in units)))
+    (are : it.tokens.items ≡ lexed_of units)
+    (functions : it.functions.items ≡ functions_in (names_of (sources_in units)))
     (made : IsGenerated units (program_in lattices marks units) it.made)
     (few : length (positions_in (program_in lattices marks units)) ≤ most_variables) where
   -- the external functions of the program
   pub held : ExternalsAreHeld → (texts : List UnitText)
       → externals_in texts (program_in lattices marks units) ≡ externals_held texts it
   held law texts =
-      law texts it.made.skeletons (numbered_from 0 (starts_of (has_access lattices) (sources_in units))) (functions_in (names_of (sources_in units)))
+      law texts it.made.skeletons (numbered_from 0 (starts_of (has_access lattices) (sources_in units)))
+      (functions_in (names_of (sources_in units)))
       (let count = made.count in omega (arith, count, few)) made.skeletons.found
       ∙ ap (map (external_at texts it.made.skeletons)) (sym functions)
 
@@ -41,9 +43,12 @@ module _ (lattices : List LatticeView) (marks : List IndexMark) (units : List Un
       → ExternalsAreHeld →
       MaySign it
   may_sign read differ order apart law = record {
-    units = λ named. subst (λ (lexed : List Lexed). AreApart (texts_of named lexed)) (sym are) (texts_apart named units differ);
-    skeletons = order it.made.skeletons (numbered_from 0 (starts_of (has_access lattices) (sources_in units))) made.skeletons.found;
+    units = λ named.
+        subst (λ (lexed : List Lexed). AreApart (texts_of named lexed)) (sym are) (texts_apart named units differ);
+    skeletons = order it.made.skeletons
+        (numbered_from 0 (starts_of (has_access lattices) (sources_in units))) made.skeletons.found;
     apart = λ texts.
         subst (λ (sys : System). AreOwnedApart sys (externals_held texts it)) (sym made.system)
-        (subst (λ (es : List External). AreOwnedApart (system_of (program_in lattices marks units)) es) (held law texts) (apart texts (program_in lattices marks units) read differ));
+        (subst (λ (es : List External). AreOwnedApart (system_of (program_in lattices marks units)) es) (held law texts)
+        (apart texts (program_in lattices marks units) read differ));
   }

@@ -1,13 +1,13 @@
 -- Units that are joined, and what is made of them.
 use Rattle.std.proofs.Common.{arith, ◌≡◌, ◌≢◌, Bool, true, false, ℕ, zero, suc, ◌+◌, ◌<◌, ◌≤◌, List, [], ◌∷◌, ◌++◌, length, drop, slice_index_or, codes, refl, sym, ◌∙◌, ap, subst, append_assoc}
 use Rattle.std.specs.Prelude.{All, nat_eq, if◌then◌else◌}
-use Rattle.std.proofs.lemmas.Bool.{eq-eqb, eqb-true}
-use Rattle.std.proofs.lemmas.List.Elements.{All-nil, All-cons, All-head, All-tail, All-push, All-weaker}
+use Rattle.std.proofs.lemmas.Bool.{eqb-true}
+use Rattle.std.proofs.lemmas.List.Elements.{All-nil, All-cons, All-head, All-tail, All-push}
+use Rattle.qual_base.proofs.Tests.{ne_turned}
 use Rattle.c_lexer.specs.declared.token.Token.{Token}
 use Rattle.c_lexer.specs.Tokens.{Lexed}
 use Rattle.c_parser.specs.Parsing.{lexemes_of, numbered}
 use Rattle.type_rules.specs.Program as rules
-use Rattle.resolve_laws.specs.NameLaws.NameLaws.{IsSound}
 use Rattle.row_laws.specs.KeyLaws.Differing.{AreNumbered, IsRead, UnitsDiffer, has_number, has_unit}
 use Rattle.c_types.specs.Sources.{UnitRead, lexed_of, sources_behind, sources_in}
 use Rattle.annotate.specs.Texts.{UnitText}
@@ -47,22 +47,15 @@ read_behind earlier [] formed = All-nil IsRead
 read_behind earlier (it ∷ units) formed =
     let own : IsFormed it = All-head IsFormed it units formed in
     All-cons IsRead _ (sources_behind (earlier ++ it.lexed ∷ []) units)
-    (record { all = lexemes_of it.lexed; tokens = own.tokens; rules = own.rules; numbers = are_numbered 0 it.lexed.tokens })
+    (record {
+      all = lexemes_of it.lexed;
+      tokens = own.tokens;
+      rules = own.rules;
+      numbers = are_numbered 0 it.lexed.tokens;
+    })
     (read_behind (earlier ++ it.lexed ∷ []) units (All-tail IsFormed it units formed))
 
--- what is well formed of some tokens obeys the rules of units
-pub sound : (sources : List rules.Source) → All IsRead sources → All IsSound sources
-sound sources read = All-weaker IsRead IsSound (λ it h. (h.all, h.rules)) sources read
-
 -- one more unit of another number
-
--- numbers that differ one way round differ the other way round
-other_way : (n m : ℕ) → nat_eq n m ≡ false → nat_eq m n ≡ false
-other_way n m e = by (nat_eq m n) refl
-  where
-    by : (b : Bool) → nat_eq m n ≡ b → b ≡ false
-    by true is = let same : nat_eq n m ≡ true = eq-eqb n m (sym (eqb-true m n is)) in absurd cc
-    by false is = refl
 
 -- a number that neither the units nor one more has is not among the units with that one behind them
 no_unit_on : (n : ℕ) (earlier : List Lexed) (units : List UnitRead) (it : UnitRead)
@@ -76,7 +69,8 @@ no_unit_on n earlier (u ∷ units) it none other =
     behind = earlier ++ u.lexed ∷ []
 
     by : (b : Bool) → (if b then true else has_unit n (sources_behind behind units)) ≡ false
-        → (has_unit n (sources_behind behind units) ≡ false → has_unit n (sources_behind behind (units ++ it ∷ [])) ≡ false)
+        → (has_unit n (sources_behind behind units) ≡ false
+        → has_unit n (sources_behind behind (units ++ it ∷ [])) ≡ false)
         → (if b then true else has_unit n (sources_behind behind (units ++ it ∷ []))) ≡ false
     by true e more = absurd cc
     by false e more = more e
@@ -87,18 +81,20 @@ differ_on : (earlier : List Lexed) (units : List UnitRead) (it : UnitRead) → U
     → UnitsDiffer (sources_behind earlier (units ++ it ∷ []))
 differ_on earlier [] it differ none = (refl, tt)
 differ_on earlier (u ∷ units) it differ none =
-    by (nat_eq u.lexed.unit it.lexed.unit) refl none (λ rest. differ_on (earlier ++ u.lexed ∷ []) units it differ.1 rest)
+    by (nat_eq u.lexed.unit it.lexed.unit) refl none
+    (λ rest. differ_on (earlier ++ u.lexed ∷ []) units it differ.1 rest)
   where
     behind : List Lexed
     behind = earlier ++ u.lexed ∷ []
 
     by : (b : Bool) → nat_eq u.lexed.unit it.lexed.unit ≡ b
         → (if b then true else has_unit it.lexed.unit (sources_behind behind units)) ≡ false
-        → (has_unit it.lexed.unit (sources_behind behind units) ≡ false → UnitsDiffer (sources_behind behind (units ++ it ∷ [])))
+        → (has_unit it.lexed.unit (sources_behind behind units) ≡ false
+        → UnitsDiffer (sources_behind behind (units ++ it ∷ [])))
         → UnitsDiffer (sources_behind earlier (u ∷ (units ++ it ∷ [])))
     by true e own more = absurd cc
     by false e own more =
-        (no_unit_on u.lexed.unit behind units it differ.0 (other_way u.lexed.unit it.lexed.unit e), more own)
+        (no_unit_on u.lexed.unit behind units it differ.0 (ne_turned u.lexed.unit it.lexed.unit e), more own)
 
 -- a lower number compares as different from a higher one
 apart : (n m : ℕ) → n < m → nat_eq n m ≡ false
@@ -125,7 +121,8 @@ one_more_may number before unit may is own = record {
   differ =
       differ_on [] before unit may.differ
       (subst (λ (n : ℕ). has_unit n (sources_in before) ≡ false) (sym is) (may.lower number (omega arith)));
-  lower = λ n le. no_unit_on n [] before unit (may.lower n (omega (arith, le))) (apart unit.lexed.unit n (omega (arith, le, is)));
+  lower = λ n le.
+      no_unit_on n [] before unit (may.lower n (omega (arith, le))) (apart unit.lexed.unit n (omega (arith, le, is)));
 }
 
 -- a prelude alone, which is unit 0
@@ -137,7 +134,8 @@ prelude_alone it unit formed = record {
 }
 
 -- what is made of a source of a unit's number
-pub at_number : (wide : Bool) (lattices : List LatticeView) (number unit : ℕ) (file bytes : List ℕ) (before : List UnitRead) (marks : List IndexMark)
+pub at_number : (wide : Bool) (lattices : List LatticeView) (number unit : ℕ) (file bytes : List ℕ)
+    (before : List UnitRead) (marks : List IndexMark)
     (earlier : Earlier) (it : Joined) → unit ≡ number → IsEarlier number before earlier
     → (IsEarlier unit before earlier → IsOneMore wide lattices unit file bytes before marks it)
     → IsOneMore wide lattices number file bytes before marks it
@@ -164,8 +162,10 @@ apart_behind : (named : FileNames) (earlier : List Lexed) (units : List UnitRead
     → UnitsDiffer (sources_behind earlier units)
     → scenes.AreApart (texts_of named (lexed_of units))
 apart_behind named earlier [] differ = tt
-apart_behind named earlier (it ∷ units) differ =
-    (sym (same_texts named (earlier ++ it.lexed ∷ []) units it.lexed.unit) ∙ differ.0, apart_behind named (earlier ++ it.lexed ∷ []) units differ.1)
+apart_behind named earlier (it ∷ units) differ = (
+  sym (same_texts named (earlier ++ it.lexed ∷ []) units it.lexed.unit) ∙ differ.0,
+  apart_behind named (earlier ++ it.lexed ∷ []) units differ.1,
+)
 
 pub texts_apart : (named : FileNames) (units : List UnitRead) → UnitsDiffer (sources_in units)
     → scenes.AreApart (texts_of named (lexed_of units))
@@ -189,7 +189,8 @@ next_text named (x ∷ units) (suc i) it is lt =
 -- the texts that are shown with those still to come stay the same when one more is shown
 pub texts_on : (named : FileNames) (units : List Lexed) (i : ℕ) (it : Lexed) (shown : List LentUnit) (u : LentUnit)
     → scenes.unit_of u ≡ text_of named it → it ≡ slice_index_or units i it → i < length units
-    → scenes.units_of (shown ++ u ∷ []) ++ texts_of named (drop (i + 1) units) ≡ scenes.units_of shown ++ texts_of named (drop i units)
+    → scenes.units_of (shown ++ u ∷ []) ++ texts_of named (drop (i + 1) units) ≡ scenes.units_of shown
+    ++ texts_of named (drop i units)
 texts_on named units i it shown u same is lt =
     let rest = texts_of named (drop (i + 1) units) in
     ap (λ (texts : List UnitText). texts ++ rest) (shown_on shown u)

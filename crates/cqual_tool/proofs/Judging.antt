@@ -36,12 +36,14 @@ judged unit it true text is = IsRight text is
 judged unit it false text is = IsWrong text is
 
 -- what was judged with a scene is the report of that scene, with the status of being accepted or not
-pub judged_as : (unit : Option ℕ) (it : Judging) (sys : System) (accepted : Bool) (status : Status) (text words : List ℕ)
+pub judged_as : (unit : Option ℕ) (it : Judging) (sys : System) (accepted : Bool) (status : Status)
+    (text words : List ℕ)
     → it.system ≡ sys → status ≡ status_of accepted → text ≡ words → IsJudgedWith it.scene sys unit accepted words
     → IsReport unit it status text
 judged_as unit it sys accepted status text words system same spelled is =
     at_equal (IsReport unit it) status (status_of accepted) text words same spelled
-    (judged unit it accepted words (subst (λ (s : System). IsJudgedWith it.scene s unit accepted words) (sym system) is))
+    (judged unit it accepted words
+    (subst (λ (s : System). IsJudgedWith it.scene s unit accepted words) (sym system) is))
 
 -- the report of a program that is not accepted, where its certificate is asked for
 pub uncertified : (it : Judging) (status : Status) (text : List ℕ)
@@ -63,14 +65,17 @@ uncertified it WriteFault text never is = elim is [ ]
 uncertified it NoMemory text never is = elim is [ ]
 
 -- what is made of certificates, where there are some, and where there are none
-pub certified_as : (it : Judging) (lattices : List LatticeView) (sys : System) (found : Option (Vec ℕ Global)) (text : Vec ℕ Global)
+pub certified_as : (it : Judging) (lattices : List LatticeView) (sys : System) (found : Option (Vec ℕ Global))
+    (text : Vec ℕ Global)
     → it.scene.lattices ≡ lattices → sys ≡ it.system → found ≡ Some text
     → IfSome found (λ t. IsCertificate sys (orders_of lattices) t.items)
     → IfSome found (λ t. IsAccepted sys (orders_of lattices))
     → IsCertified it Accepted text.items
 certified_as it lattices sys found text same system some written accepted =
-    let is = subst (λ (o : Option (Vec ℕ Global)). IfSome o (λ t. IsCertificate sys (orders_of lattices) t.items)) some written in
-    let holds = subst (λ (o : Option (Vec ℕ Global)). IfSome o (λ t. IsAccepted sys (orders_of lattices))) some accepted in
+    let is = subst
+    (λ (o : Option (Vec ℕ Global)). IfSome o (λ t. IsCertificate sys (orders_of lattices) t.items)) some written in
+    let holds =
+    subst (λ (o : Option (Vec ℕ Global)). IfSome o (λ t. IsAccepted sys (orders_of lattices))) some accepted in
     Certified text.items
     (subst (λ (s : System). IsAccepted s (orders_of it.scene.lattices)) system
     (subst (λ (ls : List LatticeView). IsAccepted sys (orders_of ls)) (sym same) holds))
@@ -94,16 +99,19 @@ pub answered_as : (it : Judging) (sys : System) (name : List ℕ) (found : Optio
 answered_as it sys name found text system some is =
     Answering text.items
     (subst (λ (s : System). IsWho it.scene s name (Some text.items)) (sym system)
-    (subst (λ (o : Option (Vec ℕ Global)). IsWho it.scene sys name (option_map (λ (t : Vec ℕ Global). t.items) o)) some is))
+    (subst
+    (λ (o : Option (Vec ℕ Global)). IsWho it.scene sys name (option_map (λ (t : Vec ℕ Global). t.items) o)) some is))
 
 -- where the question who reaches a name finds nothing, the line of no such name is its answer
-pub unnamed_as : (it : Judging) (sys : System) (name : List ℕ) (found : Option (Vec ℕ Global)) (status : Status) (text : List ℕ)
+pub unnamed_as : (it : Judging) (sys : System) (name : List ℕ) (found : Option (Vec ℕ Global)) (status : Status)
+    (text : List ℕ)
     → it.system ≡ sys → found ≡ None → status ≡ NoName → text ≡ no_name_line name
     → IsWho it.scene sys name (option_map (λ (t : Vec ℕ Global). t.items) found) → IsAnswered it name status text
 unnamed_as it sys name found status text system none says spelled is =
     at_equal (IsAnswered it name) status NoName text (no_name_line name) says spelled
     (Unnamed (subst (λ (s : System). IsWho it.scene s name None) (sym system)
-    (subst (λ (o : Option (Vec ℕ Global)). IsWho it.scene sys name (option_map (λ (t : Vec ℕ Global). t.items) o)) none is)))
+    (subst
+    (λ (o : Option (Vec ℕ Global)). IsWho it.scene sys name (option_map (λ (t : Vec ℕ Global). t.items) o)) none is)))
 
 -- a certificate is verified with the status and the text of its verdict; one that holds needs an accepted program
 verified : (it : Judging) (bytes : List ℕ) (found : Verdict)
@@ -115,7 +123,8 @@ verified it bytes (Fails lattice rule) comes accepted = Breaking lattice rule co
 verified it bytes (Unread line code) comes accepted = NoProof line code comes
 
 -- the same over lattices, constraints, a status and a text that are equal to those of the verdict
-pub verified_as : (it : Judging) (lattices : List LatticeView) (sys : System) (bytes : List ℕ) (found : Verdict) (status : Status) (text : List ℕ)
+pub verified_as : (it : Judging) (lattices : List LatticeView) (sys : System) (bytes : List ℕ) (found : Verdict)
+    (status : Status) (text : List ℕ)
     → it.scene.lattices ≡ lattices → it.system ≡ sys → status ≡ verdict_status found → text ≡ verdict_text found
     → CertificateComesTo sys (orders_of lattices) bytes found → (found ≡ Holds → IsAccepted sys (orders_of lattices))
     → IsVerified it bytes status text
@@ -140,7 +149,8 @@ checked it bytes (Bad line code) comes refutes = Failing line code comes
 
 -- a report is checked with the status and the text of what it comes to; one that holds needs a program that is not
 -- accepted
-pub checked_as : (it : Judging) (lattices : List LatticeView) (sys : System) (bytes : List ℕ) (found : Checked) (status : Status) (text : List ℕ)
+pub checked_as : (it : Judging) (lattices : List LatticeView) (sys : System) (bytes : List ℕ) (found : Checked)
+    (status : Status) (text : List ℕ)
     → it.scene.lattices ≡ lattices → it.system ≡ sys → status ≡ checked_status found → text ≡ checked_text found
     → ComesTo sys (orders_of lattices) bytes found → (found ≡ Hold → IsAccepted sys (orders_of lattices) → ⊥)
     → IsChecked it bytes status text

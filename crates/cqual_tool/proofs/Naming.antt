@@ -31,7 +31,9 @@ pub drop_from : (names : List (List ℕ)) (i : ℕ) (name : List ℕ) → slice_
     → drop i names ≡ name ∷ drop (i + 1) names
 drop_from [] i name is = absurd cc
 drop_from (n ∷ names) zero name is = let same : n ≡ name = cc in ap (λ (m : List ℕ). m ∷ names) same
-drop_from (n ∷ names) (suc i) name is = let e : suc i + 1 ≡ suc (i + 1) = omega arith in rw e (drop_from names i name is)
+drop_from (n ∷ names) (suc i) name is =
+    let e : suc i + 1 ≡ suc (i + 1) = omega arith in
+    rw e (drop_from names i name is)
 
 -- an index at which there is a name is below the count of the names
 pub within : (names : List (List ℕ)) (i : ℕ) (name : List ℕ) → slice_get names i ≡ Some name → i < length names

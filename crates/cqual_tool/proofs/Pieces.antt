@@ -7,4 +7,5 @@ pub written_on : (first middle last text : List ℕ) (n m : ℕ) → middle ≡ 
     → last ≡ middle ++ take m (drop n text) →
     last ≡ first ++ take (n + m) text
 written_on first middle last text n m one two =
-    rw take-add (two ∙ ap (λ (bytes : List ℕ). bytes ++ take m (drop n text)) one ∙ append_assoc first (take n text) (take m (drop n text)))
+    rw take-add (two ∙ ap (λ (bytes : List ℕ). bytes ++ take m (drop n text)) one
+    ∙ append_assoc first (take n text) (take m (drop n text)))

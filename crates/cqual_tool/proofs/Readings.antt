@@ -3,11 +3,12 @@ use Rattle.std.proofs.Common.{◌≡◌, ℕ, ◌+◌, ◌<◌, ◌||◌, Bool, 
 use Rattle.std.specs.declared.result.Result.{Result}
 use Rattle.std.proofs.lemmas.List.{length-append}
 use Rattle.std.proofs.lemmas.List.Elements.{All-nil, All-cons, All-head}
+use Rattle.std.proofs.lemmas.Bool.{or_left}
 use Rattle.outside.specs.Readings.{Agrees, AreWhole, Broken, End, Going, MayGive, Reading, ReadOn, ReadsAs, Standing, Whole, has_broken, is_broken, since}
 use Rattle.cqual_tool.specs.declared.answer.Answer.{Answer}
 use Rattle.cqual_tool.specs.declared.status.Status.{Status}
-use Rattle.cqual_tool.specs.declared.taking.Stop.{Stop}
-use Rattle.cqual_tool.specs.declared.taking.Stop.TheVariants.{ReadFault, NoMemory}
+use Rattle.cqual_tool.specs.declared.taking.Failure.{Failure}
+use Rattle.cqual_tool.specs.declared.taking.Failure.TheVariants.{ReadFault, NoMemory}
 use Rattle.cqual_tool.specs.Inputs.{Inputs}
 use Rattle.cqual_tool.specs.Answering.{Answered, Finds, IsSaid}
 
@@ -37,7 +38,8 @@ agree_on : (told now : Option (List (List ℕ × List ℕ))) (r : Reading) (thes
     → IfSome now (λ all. All (Agrees all) (r ∷ these))
 agree_on told None r these same one more = tt
 agree_on told (Some all) r these same one more =
-    let first : All (Agrees all) (r ∷ []) = subst (λ (o : Option (List (List ℕ × List ℕ))). IfSome o (λ them. All (Agrees them) (r ∷ []))) (sym same) one in
+    let first : All (Agrees all) (r ∷ []) =
+    subst (λ (o : Option (List (List ℕ × List ℕ))). IfSome o (λ them. All (Agrees them) (r ∷ []))) (sym same) one in
     All-cons (Agrees all) r these (All-head (Agrees all) r [] first) more
 
 -- a reading and then others go from the old standing to the new one, over the standing between them
@@ -59,15 +61,11 @@ or_false : (b c : Bool) → b ≡ false → (b || c) ≡ c
 or_false true c e = absurd cc
 or_false false c e = refl
 
-or_true : (b c : Bool) → b ≡ true → (b || c) ≡ true
-or_true true c e = refl
-or_true false c e = absurd cc
-
 unbroken : (end : End) → end ≡ Whole → is_broken end ≡ false
 unbroken end is = ap is_broken is
 
 pub broken_alone : (r : Reading) (b : Bool) → is_broken r.end ≡ b → has_broken (r ∷ []) ≡ b
-broken_alone r true is = or_true (is_broken r.end) false is
+broken_alone r true is = or_left (is_broken r.end) false is
 broken_alone r false is = or_false (is_broken r.end) false is
 
 broken_then : (r : Reading) (these : List Reading) → r.end ≡ Whole → has_broken (r ∷ these) ≡ has_broken these
@@ -89,9 +87,11 @@ pub past_limit : (limit : ℕ) (r : Reading) (content : List ℕ) → (r.end ≡
     → MayGive r.end content r.bytes
     → limit < length content
 past_limit limit r content past gives =
-    let more : (rest : List ℕ) × (content ≡ r.bytes ++ rest) = subst (λ (end : End). MayGive end content r.bytes) past.0 gives in
+    let more : (rest : List ℕ) × (content ≡ r.bytes ++ rest) =
+    subst (λ (end : End). MayGive end content r.bytes) past.0 gives in
     let over = past.1 in
-    let sum : length content ≡ length r.bytes + length more.0 = ap (λ (bytes : List ℕ). length bytes) more.1 ∙ length-append r.bytes more.0 in
+    let sum : length content ≡ length r.bytes + length more.0 =
+    ap (λ (bytes : List ℕ). length bytes) more.1 ∙ length-append r.bytes more.0 in
     omega (arith, over, sum)
 
 pub none : Inputs
@@ -118,43 +118,48 @@ module _ (old mid : Standing) (r : Reading) (read : ReadOn old mid (r ∷ [])) (
   )
 
   -- it is the last
-  ends : (these : Result Answer Stop) → Starting (r ∷ []) → IsSaid all Of (r ∷ []) these
+  ends : (these : Result Answer Failure) → Starting (r ∷ []) → IsSaid all Of (r ∷ []) these
       → Answered old mid all Of Starting these
   ends result starts says =
       (r ∷ [], record { read = read; in_turn = tt; there = there [] none tt; starts = starts; says = says })
 
-  found : (limit : ℕ) (stop : Stop) → Finds limit r (Err stop) → IsSaid all Of (r ∷ []) (Err stop)
+  found : (limit : ℕ) (failure : Failure) → Finds limit r (Err failure) → IsSaid all Of (r ∷ []) (Err failure)
   found limit ReadFault is = broken_alone r true (ap is_broken is)
   found limit NoMemory is = broken_alone r false is
 
-  pub stops : (limit : ℕ) (stop : Stop) → Starting (r ∷ []) → Finds limit r (Err stop)
-      → Answered old mid all Of Starting (Err stop)
-  stops limit stop starts is = ends (Err stop) starts (found limit stop is)
+  pub stops : (limit : ℕ) (failure : Failure) → Starting (r ∷ []) → Finds limit r (Err failure)
+      → Answered old mid all Of Starting (Err failure)
+  stops limit failure starts is = ends (Err failure) starts (found limit failure is)
 
-  pub lacks : (stop : Stop) → stop ≡ NoMemory → Starting (r ∷ []) → is_broken r.end ≡ false
-      → Answered old mid all Of Starting (Err stop)
-  lacks stop is starts whole =
-      subst (λ (s : Stop). Answered old mid all Of Starting (Err s)) (sym is) (ends (Err NoMemory) starts (broken_alone r false whole))
+  pub lacks : (failure : Failure) → failure ≡ NoMemory → Starting (r ∷ []) → is_broken r.end ≡ false
+      → Answered old mid all Of Starting (Err failure)
+  lacks failure is starts whole =
+      subst (λ (s : Failure). Answered old mid all Of Starting (Err s)) (sym is)
+      (ends (Err NoMemory) starts (broken_alone r false whole))
 
   pub answers : (answer : Answer) → Starting (r ∷ []) → is_broken r.end ≡ false
       → ((inputs : Inputs) → MayGive r.end (part inputs) r.bytes → Of inputs answer.status answer.text.items)
       → Answered old mid all Of Starting (Ok answer)
-  answers answer starts whole of = ends (Ok answer) starts (broken_alone r false whole, λ inputs reads. of inputs reads.1)
+  answers answer starts whole of =
+      ends (Ok answer) starts (broken_alone r false whole, λ inputs reads. of inputs reads.1)
 
   -- others are behind it
-  module _ (new : Standing) (OfRest : Inputs → Status → List ℕ → Type 0) (StartingRest : List Reading → Type 0) (whole : r.end ≡ Whole)
+  module _ (new : Standing) (OfRest : Inputs → Status → List ℕ → Type 0) (StartingRest : List Reading → Type 0)
+      (whole : r.end ≡ Whole)
       (starting : (these : List Reading) → StartingRest these → Starting (r ∷ these))
-      (of : (inputs : Inputs) (status : Status) (text : List ℕ) → part inputs ≡ r.bytes → OfRest inputs status text → Of inputs status text) where
-    said : (result : Result Answer Stop) (these : List Reading) → IsSaid rest OfRest these result
+      (of : (inputs : Inputs) (status : Status) (text : List ℕ) → part inputs ≡ r.bytes → OfRest inputs status text
+      → Of inputs status text) where
+    said : (result : Result Answer Failure) (these : List Reading) → IsSaid rest OfRest these result
         → IsSaid all Of (r ∷ these) result
     said (Ok answer) these is = (
       broken_then r these whole ∙ is.0,
-      λ inputs reads. of inputs answer.status answer.text.items (whole_is r (part inputs) whole reads.1) (is.1 inputs reads.2),
+      λ inputs reads.
+          of inputs answer.status answer.text.items (whole_is r (part inputs) whole reads.1) (is.1 inputs reads.2),
     )
     said (Err ReadFault) these is = broken_then r these whole ∙ is
     said (Err NoMemory) these is = broken_then r these whole ∙ is
 
-    pub goes : (result : Result Answer Stop) → Answered mid new rest OfRest StartingRest result
+    pub goes : (result : Result Answer Failure) → Answered mid new rest OfRest StartingRest result
         → Answered old new all Of Starting result
     goes result more =
         let these = more.0 in

@@ -6,8 +6,8 @@ use Rattle.cqual_words.specs.Words.{Generate, Task, meaning_of}
 use Rattle.cqual_tool.specs.declared.answer.Answer.{Answer}
 use Rattle.cqual_tool.specs.declared.status.Status.{Status}
 use Rattle.cqual_tool.specs.declared.status.Status.TheVariants.{Accepted, Rejected, PathsHold, PathBad, CertificateHolds, CertificateBad, Answered, NoName, NoSignature, Malformed, BadWords, ReadFault, WriteFault, NoMemory}
-use Rattle.cqual_tool.specs.declared.taking.Stop.{Stop}
-use Rattle.cqual_tool.specs.declared.taking.Stop.TheVariants as stops
+use Rattle.cqual_tool.specs.declared.taking.Failure.{Failure}
+use Rattle.cqual_tool.specs.declared.taking.Failure.TheVariants as failures
 use Rattle.cqual_tool.specs.Words.{FileNames, names_of, saved_in}
 use Rattle.cqual_tool.specs.Texts.{usage_line}
 use Rattle.cqual_tool.specs.Inputs.{Inputs, asked, behind_first, content_named, files_asked, files_named, files_with, first_of, inputs_asked, inputs_in, inputs_of, one_file}
@@ -39,7 +39,8 @@ nothing_of [] reads = refl
 nothing_of (r ∷ these) reads = absurd reads
 
 -- what was read is what came behind the log that was there
-pub by_since : (words : List (List ℕ)) (old new : Standing) (before after : List ℕ) (failed fails : ℕ) (status : Status) (these : List Reading)
+pub by_since : (words : List (List ℕ)) (old new : Standing) (before after : List ℕ) (failed fails : ℕ) (status : Status)
+    (these : List Reading)
     → Ran words old new before after failed fails status these
     → Ran words old new before after failed fails status (since old.log new.log)
 by_since words old new before after failed fails status these ran =
@@ -58,18 +59,21 @@ module _ (words : List (List ℕ)) (old new : Standing) (before after : List ℕ
 
     no_files : (these : List Reading) (inputs : Inputs) → ReadsAs (asked words inputs) these → (number : ℕ)
         → meaning_of words ≡ Some (Generate number) → these ≡ []
-    no_files these inputs reads number is = nothing_of these (subst (λ (o : Option Task). ReadsAs (files_asked o inputs) these) is reads)
+    no_files these inputs reads number is =
+        nothing_of these (subst (λ (o : Option Task). ReadsAs (files_asked o inputs) these) is reads)
 
     has_meaning : {P : Type 0} → meaning_of words ≡ None → P
     has_meaning is = absurd cc
 
     start : (status : Status) (these : List Reading) → TaskGoes task these → StartsFor words status these
     start status these goes =
-        ForTask task (names_read these) meaning (asked_now (λ files. TaskStarts task (λ inputs. ReadsAs (files inputs) these) (names_read these)) goes)
+        ForTask task (names_read these) meaning
+        (asked_now (λ files. TaskStarts task (λ inputs. ReadsAs (files inputs) these) (names_read these)) goes)
 
     -- an answer that is sent
     pub ran_sent : (answer : Answer) (these : List Reading) (status : Status)
-        → AnsweredBy old new (files_named (names_of task)) (λ inputs. OfTask inputs task) (TaskGoes task) (Ok answer) these
+        → AnsweredBy old new (files_named (names_of task)) (λ inputs. OfTask inputs task) (TaskGoes task)
+        (Ok answer) these
         → IsDecided answer.status → Sends before after failed fails answer.status answer.text.items status
         → Ran words old new before after failed fails status these
     ran_sent answer these status by decided sends =
@@ -118,18 +122,21 @@ module _ (words : List (List ℕ)) (old new : Standing) (before after : List ℕ
 -- nothing was written
 module _ (words : List (List ℕ)) (old new : Standing) (written : List ℕ) (failed : ℕ) where
   module _ (task : Task) (meaning : meaning_of words ≡ Some task) (these : List Reading) where
-    said : (stop other : Stop) (readings : List Reading) → stop ≡ other
-        → IsSaid (files_named (names_of task)) (λ inputs. OfTask inputs task) readings (Err stop)
+    said : (failure other : Failure) (readings : List Reading) → failure ≡ other
+        → IsSaid (files_named (names_of task)) (λ inputs. OfTask inputs task) readings (Err failure)
         → IsSaid (files_named (names_of task)) (λ inputs. OfTask inputs task) readings (Err other)
-    said stop other readings is says =
-        subst (λ (s : Stop). IsSaid (files_named (names_of task)) (λ inputs. OfTask inputs task) readings (Err s)) is says
+    said failure other readings is says =
+        subst
+        (λ (s : Failure). IsSaid (files_named (names_of task)) (λ inputs. OfTask inputs task) readings (Err s)) is says
 
-    pub ran_read_fault : (stop : Stop) → stop ≡ stops.ReadFault
-        → AnsweredBy old new (files_named (names_of task)) (λ inputs. OfTask inputs task) (TaskGoes task) (Err stop) these
+    pub ran_read_fault : (failure : Failure) → failure ≡ failures.ReadFault
+        → AnsweredBy old new (files_named (names_of task)) (λ inputs. OfTask inputs task) (TaskGoes task)
+        (Err failure) these
         → Ran words old new written written failed failed ReadFault these
-    ran_read_fault stop is by =
-        let there = asked_now words old new written written failed failed task meaning (λ files. ReadsAs (files by.there.0) these) by.there.1 in
-        let broken : has_broken these ≡ true = said stop stops.ReadFault these is by.says in record {
+    ran_read_fault failure is by =
+        let there = asked_now words old new written written failed failed task meaning
+        (λ files. ReadsAs (files by.there.0) these) by.there.1 in
+        let broken : has_broken these ≡ true = said failure failures.ReadFault these is by.says in record {
           read = by.read;
           in_turn = by.in_turn;
           there = (by.there.0, there);
@@ -143,16 +150,19 @@ module _ (words : List (List ℕ)) (old new : Standing) (written : List ℕ) (fa
           no_memory = λ e. refl;
           bad_words = λ e. absurd cc;
           no_meaning = λ e. has_meaning words old new written written failed failed task meaning e;
-          generated = λ number e. no_files words old new written written failed failed task meaning these by.there.0 there number e;
+          generated = λ number e.
+              no_files words old new written written failed failed task meaning these by.there.0 there number e;
           complete = λ whole _ _. absurd cc;
         }
 
-    pub ran_no_memory : (stop : Stop) → stop ≡ stops.NoMemory
-        → AnsweredBy old new (files_named (names_of task)) (λ inputs. OfTask inputs task) (TaskGoes task) (Err stop) these
+    pub ran_no_memory : (failure : Failure) → failure ≡ failures.NoMemory
+        → AnsweredBy old new (files_named (names_of task)) (λ inputs. OfTask inputs task) (TaskGoes task)
+        (Err failure) these
         → Ran words old new written written failed failed NoMemory these
-    ran_no_memory stop is by =
-        let there = asked_now words old new written written failed failed task meaning (λ files. ReadsAs (files by.there.0) these) by.there.1 in
-        let whole : has_broken these ≡ false = said stop stops.NoMemory these is by.says in record {
+    ran_no_memory failure is by =
+        let there = asked_now words old new written written failed failed task meaning
+        (λ files. ReadsAs (files by.there.0) these) by.there.1 in
+        let whole : has_broken these ≡ false = said failure failures.NoMemory these is by.says in record {
           read = by.read;
           in_turn = by.in_turn;
           there = (by.there.0, there);
@@ -166,7 +176,8 @@ module _ (words : List (List ℕ)) (old new : Standing) (written : List ℕ) (fa
           no_memory = λ _. refl;
           bad_words = λ e. absurd cc;
           no_meaning = λ e. has_meaning words old new written written failed failed task meaning e;
-          generated = λ number e. no_files words old new written written failed failed task meaning these by.there.0 there number e;
+          generated = λ number e.
+              no_files words old new written written failed failed task meaning these by.there.0 there number e;
           complete = λ _ _ other. absurd (other refl);
         }
 

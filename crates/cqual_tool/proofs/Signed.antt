@@ -52,7 +52,8 @@ one_lattice sys lattices got suits there =
 pub accepted_one : (sys : System) (lattices : List LatticeView) (got : LatticeView) → lattices ≡ got ∷ []
     → IsAcceptedIn sys 0 got.order →
     IsAccepted sys (orders_of lattices)
-accepted_one sys lattices got is accepted = subst (λ (ls : List LatticeView). IsAccepted sys (orders_of ls)) (sym is) only
+accepted_one sys lattices got is accepted =
+    subst (λ (ls : List LatticeView). IsAccepted sys (orders_of ls)) (sym is) only
   where
     only : IsAccepted sys (orders_of (got ∷ []))
     only zero order there = subst (λ (o : Order). IsAcceptedIn sys 0 o) (order_is there) accepted
@@ -60,14 +61,18 @@ accepted_one sys lattices got is accepted = subst (λ (ls : List LatticeView). I
 
 pub one_accepted : (sys : System) (lattices : List LatticeView) (got : LatticeView) → slice_get lattices 0 ≡ Some got →
     IsAccepted sys (orders_of lattices) → IsAcceptedIn sys 0 got.order
-one_accepted sys (l ∷ lattices) got there accepted = subst (λ (v : LatticeView). IsAcceptedIn sys 0 v.order) (view_is there) (accepted 0 l.order refl)
+one_accepted sys (l ∷ lattices) got there accepted =
+    subst (λ (v : LatticeView). IsAcceptedIn sys 0 v.order) (view_is there) (accepted 0 l.order refl)
 one_accepted sys [] got there accepted = absurd cc
 
 -- ---- what is said, as the code holds it
 
-module _ (it : Judging) (sys : System) (lattices : List LatticeView) (same : it.scene.lattices ≡ lattices) (system : it.system ≡ sys) where
+module _ (it : Judging) (sys : System) (lattices : List LatticeView) (same : it.scene.lattices ≡ lattices)
+    (system : it.system ≡ sys) where
   suits_as : Suits sys lattices → Suits it.system it.scene.lattices
-  suits_as suits = subst (λ (s : System). Suits s it.scene.lattices) (sym system) (subst (λ (ls : List LatticeView). Suits sys ls) (sym same) suits)
+  suits_as suits =
+      subst (λ (s : System). Suits s it.scene.lattices) (sym system)
+      (subst (λ (ls : List LatticeView). Suits sys ls) (sym same) suits)
 
   accepted_as : IsAccepted sys (orders_of lattices) → IsAccepted it.system (orders_of it.scene.lattices)
   accepted_as accepted =
@@ -94,7 +99,8 @@ module _ (it : Judging) (sys : System) (lattices : List LatticeView) (same : it.
       (subst (λ (s : System). slice_get s.constraints n ≡ Some c) (sym system) says.1))
 
   -- the lines, or the function that has none
-  module _ (got : LatticeView) (functions : List External) (named : it.externals ≡ functions) (suits : Suits sys lattices) (one : lattices ≡ got ∷ [])
+  module _ (got : LatticeView) (functions : List External) (named : it.externals ≡ functions)
+      (suits : Suits sys lattices) (one : lattices ≡ got ∷ [])
       (accepted : IsAcceptedIn sys 0 got.order) where
     found_as : (found : Found) → IsFoundAt sys 0 got.order (flat_map nodes_of functions) found →
         IsFoundAt it.system 0 got.order (flat_map nodes_of it.externals) found
@@ -106,15 +112,18 @@ module _ (it : Judging) (sys : System) (lattices : List LatticeView) (same : it.
     signed_as text written =
         subst (IsSigned it Accepted) (ap (λ (es : List External). lines_of written.it got es) named ∙ sym written.is)
         (Signed got written.it (suits_as suits) (same ∙ one) (accepted_as (accepted_one sys lattices got one accepted))
-        (found_as written.it written.found) (ap (λ (es : List External). first_refusal written.it got es) named ∙ written.none))
+        (found_as written.it written.found)
+        (ap (λ (es : List External). first_refusal written.it got es) named ∙ written.none))
 
     pub unwritable_as : (refusal : Refusal) (answer : Answer) → IsRefused sys got functions refusal
         → answer.status ≡ NoSignature →
         answer.text.items ≡ refusal_line it.scene refusal → IsSigned it answer.status answer.text.items
     unwritable_as refusal answer refused status text =
         at_equal (IsSigned it) answer.status NoSignature answer.text.items (refusal_line it.scene refusal) status text
-        (Unwritable got refused.it refusal (suits_as suits) (same ∙ one) (accepted_as (accepted_one sys lattices got one accepted))
-        (found_as refused.it refused.found) (ap (λ (es : List External). first_refusal refused.it got es) named ∙ refused.some))
+        (Unwritable got refused.it refusal (suits_as suits) (same ∙ one)
+        (accepted_as (accepted_one sys lattices got one accepted))
+        (found_as refused.it refused.found)
+        (ap (λ (es : List External). first_refusal refused.it got es) named ∙ refused.some))
 
     pub refused_as : (fault : SigFault) (answer : Answer) → IsFault sys got functions fault
         → SaysRefused it.scene fault answer →

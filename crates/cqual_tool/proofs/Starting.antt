@@ -28,7 +28,8 @@ rest_of inputs = record {
 -- one more source in front
 
 -- a source within the limit that parses, before sources that parse, gives sources that parse
-pub one_more : (wide : Bool) (lattices : List LatticeView) (number left : ℕ) (file bytes content : List ℕ) (more : List (List ℕ × List ℕ)) (unit : UnitRead)
+pub one_more : (wide : Bool) (lattices : List LatticeView) (number left : ℕ) (file bytes content : List ℕ)
+    (more : List (List ℕ × List ℕ)) (unit : UnitRead)
     (units : List UnitRead) → content ≡ bytes → length bytes ≤ limit_in left
     → SourceParses wide lattices number bytes unit
     → SourcesParse wide lattices (number + 1) (left - length bytes) more units
@@ -44,7 +45,8 @@ behind_one before unit units P is = subst P (append_assoc before (unit ∷ []) u
 
 module _ (named : FileNames) (lattices : List LatticeView) where
   -- behind all sources
-  pub end_starts : (before : List UnitRead) (marks : List IndexMark) (number left : ℕ) (Given : Inputs → Type 0) (started : List (List ℕ))
+  pub end_starts : (before : List UnitRead) (marks : List IndexMark) (number left : ℕ) (Given : Inputs → Type 0)
+      (started : List (List ℕ))
       → EndStarts named started
       → ((inputs : Inputs) → Given inputs → AreRead named lattices before marks number left [])
       → SourcesStart named lattices before marks number left [] Given started
@@ -58,23 +60,30 @@ module _ (named : FileNames) (lattices : List LatticeView) where
         → ((inputs : Inputs) → Given inputs → (first_of inputs.sources ≡ bytes) × Rest (rest_of inputs))
         → SourcesStart named lattices (before ++ unit ∷ []) marks (number + 1) (left - length bytes) names Rest started
         → SourcesStart named lattices before marks number left (file ∷ names) Given (file ∷ started)
-    one_starts names Given Rest _ is (NoneLeft none) = SomeStart 0 (omega arith) (λ inputs given. ([], NoSource number left))
+    one_starts names Given Rest _ is (NoneLeft none) =
+        SomeStart 0 (omega arith) (λ inputs given. ([], NoSource number left))
     one_starts names Given Rest _ is (SomeStart count lt parsed) =
         SomeStart (suc count) (omega (arith, lt)) (λ inputs given.
-        let all = is inputs given in let rest = parsed (rest_of inputs) all.1 in
-        (unit ∷ rest.0, one_more named.wide lattices number left file bytes (first_of inputs.sources) _ unit rest.0 all.0 within parses rest.1))
+        let all = is inputs given in let rest = parsed (rest_of inputs) all.1 in (
+          unit ∷ rest.0,
+          one_more named.wide lattices number left file bytes
+              (first_of inputs.sources) _ unit rest.0 all.0 within parses rest.1,
+        ))
     one_starts names Given Rest _ is (SavedBehind report asked read) =
         SavedBehind report asked (λ inputs given.
         let all = is inputs given in let rest = read (rest_of inputs) all.1 in (
           unit ∷ rest.0,
-          one_more named.wide lattices number left file bytes (first_of inputs.sources) _ unit rest.0 all.0 within parses rest.1,
+          one_more named.wide lattices number left file bytes
+              (first_of inputs.sources) _ unit rest.0 all.0 within parses rest.1,
           behind_one before unit rest.0 (AreCounted named lattices marks) rest.2,
         ))
 
-    pub one_of : (Ends : Judging → Status → List ℕ → Type 0) (more : List (List ℕ × List ℕ)) (status : Status) (text : List ℕ)
+    pub one_of : (Ends : Judging → Status → List ℕ → Type 0) (more : List (List ℕ × List ℕ)) (status : Status)
+        (text : List ℕ)
         → OfSources named lattices (before ++ unit ∷ []) marks Ends (number + 1) (left - length bytes) more status text
         → OfSources named lattices before marks Ends number left ((file, bytes) ∷ more) status text
-    one_of Ends more _ _ (NotParsed text fails) = NotParsed text (Later number left (file, bytes) more unit text within parses fails)
+    one_of Ends more _ _ (NotParsed text fails) =
+        NotParsed text (Later number left (file, bytes) more unit text within parses fails)
     one_of Ends more _ _ (NotCounted units text parse refused) =
         NotCounted (unit ∷ units) text (OneSource number left (file, bytes) more unit units within parses parse)
         (behind_one before unit units (λ all. UnitsRefused named lattices marks all text) refused)
@@ -84,7 +93,8 @@ module _ (named : FileNames) (lattices : List LatticeView) where
         (behind_one before unit units (λ all. Ends (judging_of named lattices marks all) status text) ends)
 
   -- the sources behind what was read before them: o is the prelude, where one is named
-  pub units_start : (Given Sources : Inputs → Type 0) (before : List UnitRead) (marks : List IndexMark) (names o : List (List ℕ))
+  pub units_start : (Given Sources : Inputs → Type 0) (before : List UnitRead) (marks : List IndexMark)
+      (names o : List (List ℕ))
       → named_one named.prelude ≡ o → 1 ≤ length named.sources
       → ((inputs : Inputs) → Given inputs → Sources inputs)
       → ((inputs : Inputs) → Given inputs → AreBefore named inputs lattices before marks)

@@ -27,7 +27,8 @@ counts_are : (counts : Counts) (v c s e : ℕ) → counts.variables ≡ v → co
     → counts.errors ≡ e
     → counts ≡ record { variables = v; constraints = c; sites = s; errors = e }
 counts_are counts v c s e one two three four =
-    ap (λ (n : ℕ). record { variables = n; constraints = counts.constraints; sites = counts.sites; errors = counts.errors }) one
+    ap (λ (n : ℕ).
+    record { variables = n; constraints = counts.constraints; sites = counts.sites; errors = counts.errors }) one
     ∙ ap (λ (n : ℕ). record { variables = v; constraints = n; sites = counts.sites; errors = counts.errors }) two
     ∙ ap (λ (n : ℕ). record { variables = v; constraints = c; sites = n; errors = counts.errors }) three
     ∙ ap (λ (n : ℕ). record { variables = v; constraints = c; sites = s; errors = n }) four
@@ -40,9 +41,12 @@ pub summed_as : (number errors : ℕ) (it : Judging) (sys : System) (counts : Co
     → ErrorCount it.scene sys (length sys.constraints) errors
     → (errors ≡ 0 → IsAccepted sys (orders_of it.scene.lattices))
     → (0 < errors → IsAccepted sys (orders_of it.scene.lattices) → ⊥) → IsSummed number it status text
-summed_as number errors it sys counts status text system same spelled variables constraints sites count found holds fails =
-    let all = counts_are counts (length it.scene.positions) (length it.system.constraints) (length it.system.sites) errors variables
-    (constraints ∙ ap (λ (s : System). length s.constraints) (sym system)) (sites ∙ ap (λ (s : System). length s.sites) (sym system)) count in
+summed_as number errors it sys counts status text system same spelled variables constraints sites count found holds
+    fails =
+    let all = counts_are counts (length it.scene.positions) (length it.system.constraints)
+    (length it.system.sites) errors variables
+    (constraints ∙ ap (λ (s : System). length s.constraints) (sym system))
+    (sites ∙ ap (λ (s : System). length s.sites) (sym system)) count in
     at_equal (IsSummed number it) status (sum_status errors) text _ same (spelled ∙ ap (summary_text number) all)
     (SummedUp errors (subst (λ (s : System). ErrorCount it.scene s (length s.constraints) errors) (sym system) found)
     (subst (λ (s : System). errors ≡ 0 → IsAccepted s (orders_of it.scene.lattices)) (sym system) holds)
@@ -52,13 +56,15 @@ summed_as number errors it sys counts status text system same spelled variables 
 
 module _ (number : ℕ) (lattices : List LatticeView) (bytes : List ℕ) where
   abbrev OfSource : Status → List ℕ → Type 0
-  OfSource = OfSources made_names lattices [] [] (IsSummed number) 1 total_limit (files_with made_names.sources (bytes ∷ []))
+  OfSource =
+      OfSources made_names lattices [] [] (IsSummed number) 1 total_limit (files_with made_names.sources (bytes ∷ []))
 
   pub made_too_large : (answer : Answer) → source_limit < length bytes
       → Says Malformed (malformed_line (codes "generated.c") (codes "F2")) answer
       → OfSource answer.status answer.text.items
   made_too_large answer large says =
-      at_equal OfSource answer.status Malformed answer.text.items (malformed_line (codes "generated.c") (codes "F2")) says.0 says.1
+      at_equal OfSource answer.status Malformed answer.text.items
+      (malformed_line (codes "generated.c") (codes "F2")) says.0 says.1
       (NotParsed _ (TooLarge 1 total_limit (codes "generated.c", bytes) [] large))
 
   module _ (within : length bytes ≤ source_limit) where
@@ -67,12 +73,14 @@ module _ (number : ℕ) (lattices : List LatticeView) (bytes : List ℕ) where
         → OfSource answer.status answer.text.items
     made_unread answer status is =
         at_equal OfSource answer.status Malformed answer.text.items answer.text.items status refl
-        (NotParsed answer.text.items (Refused 1 total_limit (codes "generated.c", bytes) [] answer.text.items within is))
+        (NotParsed answer.text.items
+        (Refused 1 total_limit (codes "generated.c", bytes) [] answer.text.items within is))
 
     module _ (unit : UnitRead) (parses : SourceParses false lattices 1 bytes unit) where
       made_parse : SourcesParse false lattices 1 total_limit (files_with made_names.sources (bytes ∷ [])) (unit ∷ [])
       made_parse =
-          OneSource 1 total_limit (codes "generated.c", bytes) [] unit [] within parses (NoSource (1 + 1) (total_limit - length bytes))
+          OneSource 1 total_limit (codes "generated.c", bytes) [] unit [] within parses
+          (NoSource (1 + 1) (total_limit - length bytes))
 
       pub made_refused : (named : FileNames) (marks : List IndexMark) (answer : Answer) → named ≡ made_names
           → marks ≡ []

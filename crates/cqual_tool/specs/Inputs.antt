@@ -1,6 +1,5 @@
 -- The files of one call by what they are for. They go by part and not by name: a file that is read twice may give two
--- contents
--- on a disk that changes, as where one source is named twice.
+-- contents on a disk that changes, as where one source is named twice.
 use Rattle.std.specs.Prelude.{ℕ, List, [], ◌∷◌, ◌++◌, map, Option, Some, None}
 use Rattle.outside.specs.Readings.{content_of}
 use Rattle.cqual_words.specs.Words.{Task, meaning_of}
@@ -34,8 +33,7 @@ files_with [] contents = []
 files_with (name ∷ names) contents = (name, first_of contents) ∷ files_with names (behind_first contents)
 
 -- The files that are named, in the order in which they are read: the saved one, those from some sources on, those from
--- the prelude on,
--- and all.
+-- the prelude on, and all.
 abbrev pub from_saved : FileNames → Inputs → List (List ℕ × List ℕ)
 from_saved named inputs = one_file (saved_in named) inputs.saved
 

@@ -16,8 +16,8 @@ use Rattle.c_lexer.specs.declared.lexing.LexFault.TheVariants.{NoMemory as NoRoo
 use Rattle.c_units.specs.Units.{IsWellFormed}
 use Rattle.c_parser.specs.Parsing.{lexemes_of}
 use Rattle.c_parser.specs.Refusing.{IsUnitRefusal}
-use Rattle.c_parser.specs.declared.parsing.ParseFault.{ParseFault}
-use Rattle.c_parser.specs.declared.parsing.ParseFault.TheVariants.{NoMemory as OutOfRoom}
+use Rattle.reader_base.specs.declared.fault.ReadError.{ReadError}
+use Rattle.reader_base.specs.declared.fault.ReadError.TheVariants.{NoMemory as OutOfRoom}
 use Rattle.type_rules.specs.Program.{faults_of, HasNoFault}
 use Rattle.unit_types.specs.declared.fault.ShapeFault.{ShapeFault}
 use Rattle.unit_types.specs.declared.fault.ShapeFault.TheVariants.{NoMemory as OutOfNames}
@@ -88,14 +88,16 @@ pub record LatticesFail (wide : Bool) (bytes : List ℕ) (fault : LatticeFileFau
   pub reason : fault ≢ OutOfMemory
 
 -- the bytes are within the limit, and are this prelude where words mean what the names of the lattices do
-pub record PreludeReads (wide : Bool) (lattices : List LatticeView) (bytes : List ℕ) (unit : UnitRead) (marks : List IndexMark) : Type 0 where
+pub record PreludeReads (wide : Bool) (lattices : List LatticeView) (bytes : List ℕ) (unit : UnitRead)
+    (marks : List IndexMark) : Type 0 where
   pub within : length bytes ≤ source_limit
   pub words : Meanings
   pub mean : MeansTheSame words (words_of lattices)
   pub is : IsPrelude wide words bytes unit marks
 
 -- the bytes are within the limit, and are no prelude for this reason
-pub record PreludeFails (wide : Bool) (lattices : List LatticeView) (bytes : List ℕ) (fault : PreludeFault) : Type 0 where
+pub record PreludeFails (wide : Bool) (lattices : List LatticeView) (bytes : List ℕ)
+    (fault : PreludeFault) : Type 0 where
   pub within : length bytes ≤ source_limit
   pub words : Meanings
   pub mean : MeansTheSame words (words_of lattices)
@@ -103,35 +105,40 @@ pub record PreludeFails (wide : Bool) (lattices : List LatticeView) (bytes : Lis
   pub reason : fault ≢ OutOfSpace
 
 -- the units before the sources, and what their index words say: those of the prelude that is named, if one is
-pub data AreBefore (named : FileNames) (inputs : Inputs) (lattices : List LatticeView) : List UnitRead → List IndexMark → Type 0 where
+pub data AreBefore (named : FileNames) (inputs : Inputs) (lattices : List LatticeView) : List UnitRead → List IndexMark
+    → Type 0 where
   NoPrelude : named.prelude ≡ None → AreBefore named inputs lattices [] []
   OnePrelude : (file : List ℕ) (unit : UnitRead) (marks : List IndexMark) → named.prelude ≡ Some file →
       PreludeReads named.wide lattices inputs.prelude unit marks → AreBefore named inputs lattices (unit ∷ []) marks
 
 -- the bytes of the unit of this number spell these tokens where words mean what the names of the lattices do
-pub record SourceLexes (wide : Bool) (lattices : List LatticeView) (number : ℕ) (bytes : List ℕ) (lexed : Lexed) : Type 0 where
+pub record SourceLexes (wide : Bool) (lattices : List LatticeView) (number : ℕ) (bytes : List ℕ)
+    (lexed : Lexed) : Type 0 where
   pub unit : lexed.unit ≡ number
   pub dialect : lexed.wide ≡ wide
   pub bytes_are : lexed.bytes ≡ bytes
   pub marks : IsMarkedBy (words_of lattices) lexed
 
 -- the bytes stop to spell tokens at the place of this fault
-pub record SourceFails (wide : Bool) (lattices : List LatticeView) (number : ℕ) (bytes : List ℕ) (fault : LexFault) : Type 0 where
+pub record SourceFails (wide : Bool) (lattices : List LatticeView) (number : ℕ) (bytes : List ℕ)
+    (fault : LexFault) : Type 0 where
   pub words : Meanings
   pub mean : MeansTheSame words (words_of lattices)
   pub refused : IsRefusal number wide words bytes fault
   pub reason : fault ≢ NoRoom
 
 -- the tokens are those of this well-formed unit
-pub record SourceParses (wide : Bool) (lattices : List LatticeView) (number : ℕ) (bytes : List ℕ) (it : UnitRead) : Type 0 where
+pub record SourceParses (wide : Bool) (lattices : List LatticeView) (number : ℕ) (bytes : List ℕ)
+    (it : UnitRead) : Type 0 where
   pub lexes : SourceLexes wide lattices number bytes it.lexed
   pub formed : IsWellFormed it.lexed.wide (lexemes_of it.lexed) it.items
 
 -- the whole line for the bytes of a file that are no tokens, or whose tokens are those of no well-formed unit
-pub data SourceRefused (wide : Bool) (lattices : List LatticeView) (number : ℕ) (file bytes : List ℕ) : List ℕ → Type 0 where
+pub data SourceRefused (wide : Bool) (lattices : List LatticeView) (number : ℕ) (file bytes : List ℕ) : List ℕ
+    → Type 0 where
   Unspelled : (fault : LexFault) → SourceFails wide lattices number bytes fault
       → SourceRefused wide lattices number file bytes (lex_line file bytes fault)
-  Unparsed : (lexed : Lexed) (fault : ParseFault) → SourceLexes wide lattices number bytes lexed → fault ≢ OutOfRoom
+  Unparsed : (lexed : Lexed) (fault : ReadError) → SourceLexes wide lattices number bytes lexed → fault ≢ OutOfRoom
       → IsUnitRefusal lexed fault →
       SourceRefused wide lattices number file bytes (syntax_line file lexed fault)
 
@@ -140,33 +147,39 @@ abbrev pub limit_in : ℕ → ℕ
 limit_in left = if nat_le left source_limit then left else source_limit
 
 -- Sources, each its name and its bytes, are these units: the first has this number, and each other the next one. So
--- many bytes are left
--- for all of them together.
-pub data SourcesParse (wide : Bool) (lattices : List LatticeView) : ℕ → ℕ → List (List ℕ × List ℕ) → List UnitRead → Type 0 where
+-- many bytes are left for all of them together.
+pub data SourcesParse (wide : Bool) (lattices : List LatticeView) : ℕ → ℕ → List (List ℕ × List ℕ) → List UnitRead
+    → Type 0 where
   NoSource : (number left : ℕ) → SourcesParse wide lattices number left [] []
-  OneSource : (number left : ℕ) (source : List ℕ × List ℕ) (more : List (List ℕ × List ℕ)) (unit : UnitRead) (units : List UnitRead) →
+  OneSource : (number left : ℕ) (source : List ℕ × List ℕ) (more : List (List ℕ × List ℕ)) (unit : UnitRead)
+      (units : List UnitRead) →
       length source.1 ≤ limit_in left → SourceParses wide lattices number source.1 unit →
       SourcesParse wide lattices (number + 1) (left - length source.1) more units →
       SourcesParse wide lattices number left (source ∷ more) (unit ∷ units)
 
 -- The whole line for sources of which one has too many bytes or is no well-formed unit: for the first of these.
-pub data SourcesFail (wide : Bool) (lattices : List LatticeView) : ℕ → ℕ → List (List ℕ × List ℕ) → List ℕ → Type 0 where
+pub data SourcesFail (wide : Bool) (lattices : List LatticeView) : ℕ → ℕ → List (List ℕ × List ℕ) → List ℕ
+    → Type 0 where
   TooLarge : (number left : ℕ) (source : List ℕ × List ℕ) (more : List (List ℕ × List ℕ))
       → limit_in left < length source.1 →
       SourcesFail wide lattices number left (source ∷ more) (malformed_line source.0 (codes "F2"))
   Refused : (number left : ℕ) (source : List ℕ × List ℕ) (more : List (List ℕ × List ℕ)) (text : List ℕ)
       → length source.1 ≤ limit_in left →
-      SourceRefused wide lattices number source.0 source.1 text → SourcesFail wide lattices number left (source ∷ more) text
-  Later : (number left : ℕ) (source : List ℕ × List ℕ) (more : List (List ℕ × List ℕ)) (unit : UnitRead) (text : List ℕ) →
+      SourceRefused wide lattices number source.0 source.1 text
+      → SourcesFail wide lattices number left (source ∷ more) text
+  Later : (number left : ℕ) (source : List ℕ × List ℕ) (more : List (List ℕ × List ℕ)) (unit : UnitRead)
+      (text : List ℕ) →
       length source.1 ≤ limit_in left → SourceParses wide lattices number source.1 unit →
-      SourcesFail wide lattices (number + 1) (left - length source.1) more text → SourcesFail wide lattices number left (source ∷ more) text
+      SourcesFail wide lattices (number + 1) (left - length source.1) more text
+      → SourcesFail wide lattices number left (source ∷ more) text
 
 -- The whole line for well-formed units, the prelude's too, whose names and types have a fault, or whose variables,
--- counted first, or
--- constraints are too many.
-pub data UnitsRefused (named : FileNames) (lattices : List LatticeView) (marks : List IndexMark) (units : List UnitRead) : List ℕ → Type 0 where
+-- counted first, or constraints are too many.
+pub data UnitsRefused (named : FileNames) (lattices : List LatticeView) (marks : List IndexMark)
+    (units : List UnitRead) : List ℕ → Type 0 where
   Faulty : (fault : ShapeFault) → fault ≢ OutOfNames → IsFirstUnlessMemory fault (faults_of (sources_in units)) →
-      UnitsRefused named lattices marks units (shape_line (last_of named.sources) (texts_of named (lexed_of units)) fault)
+      UnitsRefused named lattices marks units
+      (shape_line (last_of named.sources) (texts_of named (lexed_of units)) fault)
   ManyVariables : HasNoFault (sources_in units)
       → most_variables < length (judging_of named lattices marks units).scene.positions →
       UnitsRefused named lattices marks units (malformed_line (last_of named.sources) (codes "Q1"))
@@ -176,7 +189,8 @@ pub data UnitsRefused (named : FileNames) (lattices : List LatticeView) (marks :
       UnitsRefused named lattices marks units (malformed_line (last_of named.sources) (codes "G1"))
 
 -- the names and types of units have no fault, and the counts are within their limits
-pub record AreCounted (named : FileNames) (lattices : List LatticeView) (marks : List IndexMark) (units : List UnitRead) : Type 0 where
+pub record AreCounted (named : FileNames) (lattices : List LatticeView) (marks : List IndexMark)
+    (units : List UnitRead) : Type 0 where
   pub shaped : HasNoFault (sources_in units)
   pub few_variables : length (judging_of named lattices marks units).scene.positions ≤ most_variables
   pub few_constraints : length (judging_of named lattices marks units).system.constraints ≤ most_constraints
@@ -195,8 +209,7 @@ pub data IsCertified (it : Judging) : Status → List ℕ → Type 0 where
   Uncertified : (text : List ℕ) → IsJudgedWith it.scene it.system None false text → IsCertified it Rejected text
 
 -- The status and the whole text for a report that is checked over the constraints of a program. Where its paths hold,
--- the program
--- is not accepted.
+-- the program is not accepted.
 pub data IsChecked (it : Judging) (bytes : List ℕ) : Status → List ℕ → Type 0 where
   Holding : ComesTo it.system (orders_of it.scene.lattices) bytes Hold
       → (IsAccepted it.system (orders_of it.scene.lattices) → ⊥) →
@@ -205,8 +218,7 @@ pub data IsChecked (it : Judging) (bytes : List ℕ) : Status → List ℕ → T
       IsChecked it bytes PathBad (checked_text (Bad line code))
 
 -- The status and the whole text for a certificate that is checked over the constraints of a program. Where it holds,
--- the program is
--- accepted: who trusts that need know neither the rules nor the text of certificates.
+-- the program is accepted: who trusts that need know neither the rules nor the text of certificates.
 pub data IsVerified (it : Judging) (bytes : List ℕ) : Status → List ℕ → Type 0 where
   Proving : CertificateComesTo it.system (orders_of it.scene.lattices) bytes Holds
       → IsAccepted it.system (orders_of it.scene.lattices) →
@@ -233,21 +245,23 @@ refusal_line scene (NoPlace p) = no_signature_at (place_text scene p.0 p.1) (cod
 refusal_line scene (NoWord p) = no_signature_at (place_text scene p.0 p.1) (codes "U4")
 
 -- The status and the whole text where the signatures of a program as a library are asked for: why it may have none; the
--- report of one
--- that may and is not accepted; why a function has none; or the lines.
+-- report of one that may and is not accepted; why a function has none; or the lines.
 pub data IsSigned (it : Judging) : Status → List ℕ → Type 0 where
   NoLattice : (IsOnePlain it.scene.lattices → ⊥) → IsSigned it NoSignature (no_signature_line (codes "U1"))
   Shared : (n : ℕ) (constraint : Constraint) → IsOnePlain it.scene.lattices → IsFirstShared it.system n →
       slice_get it.system.constraints n ≡ Some constraint →
-      IsSigned it NoSignature (no_signature_at (place_text it.scene constraint.span.unit constraint.span.from) (codes "U2"))
+      IsSigned it NoSignature
+      (no_signature_at (place_text it.scene constraint.span.unit constraint.span.from) (codes "U2"))
   Unsigned : (text : List ℕ) → Suits it.system it.scene.lattices → IsJudgedWith it.scene it.system None false text →
       IsSigned it Rejected text
   Unwritable : (lattice : LatticeView) (found : Found) (refusal : Refusal) → Suits it.system it.scene.lattices →
-      it.scene.lattices ≡ lattice ∷ [] → IsAccepted it.system (orders_of it.scene.lattices) → IsFoundOf it lattice found →
+      it.scene.lattices ≡ lattice ∷ [] → IsAccepted it.system (orders_of it.scene.lattices)
+      → IsFoundOf it lattice found →
       first_refusal found lattice it.externals ≡ Some refusal → IsSigned it NoSignature (refusal_line it.scene refusal)
   Signed : (lattice : LatticeView) (found : Found) → Suits it.system it.scene.lattices
       → it.scene.lattices ≡ lattice ∷ [] →
-      IsAccepted it.system (orders_of it.scene.lattices) → IsFoundOf it lattice found → first_refusal found lattice it.externals ≡ None →
+      IsAccepted it.system (orders_of it.scene.lattices) → IsFoundOf it lattice found
+      → first_refusal found lattice it.externals ≡ None →
       IsSigned it Accepted (lines_of found lattice it.externals)
 
 -- The status and the whole text for a program, where no saved file is asked of; the one source is unit 1.
@@ -282,17 +296,19 @@ pub data IsEnd (named : FileNames) (saved : List ℕ) (it : Judging) : Status �
       IsOfSaved named.asked it saved status text → IsEnd named saved it status text
 
 -- The status and the whole text for sources, each its name and its bytes, behind lattices and units that were read: the
--- first has this
--- number, and so many bytes are left for all of them. `Ends` is what comes of their program.
+-- first has this number, and so many bytes are left for all of them. `Ends` is what comes of their program.
 pub data OfSources (named : FileNames) (lattices : List LatticeView) (before : List UnitRead) (marks : List IndexMark)
-    (Ends : Judging → Status → List ℕ → Type 0) (number left : ℕ) (sources : List (List ℕ × List ℕ)) : Status → List ℕ → Type 0 where
+    (Ends : Judging → Status → List ℕ → Type 0) (number left : ℕ) (sources : List (List ℕ × List ℕ)) : Status → List ℕ
+    → Type 0 where
   NotParsed : (text : List ℕ) → SourcesFail named.wide lattices number left sources text →
       OfSources named lattices before marks Ends number left sources Malformed text
   NotCounted : (units : List UnitRead) (text : List ℕ) → SourcesParse named.wide lattices number left sources units →
-      UnitsRefused named lattices marks (before ++ units) text → OfSources named lattices before marks Ends number left sources Malformed text
+      UnitsRefused named lattices marks (before ++ units) text
+      → OfSources named lattices before marks Ends number left sources Malformed text
   SourcesRead : (units : List UnitRead) (status : Status) (text : List ℕ)
       → SourcesParse named.wide lattices number left sources units →
-      AreCounted named lattices marks (before ++ units) → Ends (judging_of named lattices marks (before ++ units)) status text →
+      AreCounted named lattices marks (before ++ units)
+      → Ends (judging_of named lattices marks (before ++ units)) status text →
       OfSources named lattices before marks Ends number left sources status text
 
 -- the sources that are named, with their bytes
@@ -308,7 +324,8 @@ pub data OfUnits (named : FileNames) (inputs : Inputs) (lattices : List LatticeV
       OfUnits named inputs lattices Malformed (prelude_line file inputs.prelude fault)
   PreludeRead : (before : List UnitRead) (marks : List IndexMark) (status : Status) (text : List ℕ)
       → AreBefore named inputs lattices before marks →
-      OfSources named lattices before marks (IsEnd named inputs.saved) 1 total_limit (sources_of named inputs) status text →
+      OfSources named lattices before marks (IsEnd named inputs.saved) 1 total_limit
+      (sources_of named inputs) status text →
       OfUnits named inputs lattices status text
 
 -- The status and the whole text for files that are named, by the bytes of each.
@@ -323,7 +340,13 @@ pub data OfFiles (named : FileNames) (inputs : Inputs) : Status → List ℕ →
 
 -- the names of the files that the tool makes itself
 abbrev pub made_names : FileNames
-made_names = record { lattice = codes "generated.q"; prelude = None; asked = Infer; sources = codes "generated.c" ∷ []; wide = false }
+made_names = record {
+  lattice = codes "generated.q";
+  prelude = None;
+  asked = Infer;
+  sources = codes "generated.c" ∷ [];
+  wide = false;
+}
 
 -- the status of a made source, by how many bounds are exceeded
 abbrev pub sum_status : ℕ → Status
@@ -331,8 +354,7 @@ sum_status zero = Accepted
 sum_status (suc errors) = Rejected
 
 -- The status and the whole text for the program of a source that the tool makes itself: the counts of its variables,
--- its constraints,
--- its call sites and its exceeded bounds. It is accepted exactly where there are none of these.
+-- its constraints, its call sites and its exceeded bounds. It is accepted exactly where there are none of these.
 pub data IsSummed (number : ℕ) (it : Judging) : Status → List ℕ → Type 0 where
   SummedUp : (errors : ℕ) → ErrorCount it.scene it.system (length it.system.constraints) errors →
       (errors ≡ 0 → IsAccepted it.system (orders_of it.scene.lattices)) →
@@ -350,7 +372,8 @@ pub data OfMade (number : ℕ) : Status → List ℕ → Type 0 where
       OfMade number Malformed (lattice_line made_names.lattice fault)
   MadeRead : (lattices : List LatticeView) (status : Status) (text : List ℕ)
       → LatticesRead false lattice_text lattices →
-      OfSources made_names lattices [] [] (IsSummed number) 1 total_limit (files_with made_names.sources (generated_text number ∷ [])) status text →
+      OfSources made_names lattices [] [] (IsSummed number) 1 total_limit
+      (files_with made_names.sources (generated_text number ∷ [])) status text →
       OfMade number status text
 
 -- The status and the whole text for what is asked, by the bytes of each part.
@@ -370,7 +393,8 @@ pub data Outcome (words : List (List ℕ)) (inputs : Inputs) : Status → List �
 -- It is the status and the whole text whatever the files hold beside what was read of them: for all files that give
 -- these readings.
 abbrev pub Answers : List (List ℕ) → List Reading → Status → List ℕ → Type 0
-Answers words these status text = (inputs : Inputs) → ReadsAs (asked words inputs) these → Outcome words inputs status text
+Answers words these status text =
+    (inputs : Inputs) → ReadsAs (asked words inputs) these → Outcome words inputs status text
 
 -- the answer is that of the words and the files: no read failed, no write did, and memory was found
 abbrev pub IsAnswer : Status → Type 0
@@ -440,8 +464,7 @@ pub record ProgramIsRead (named : FileNames) (inputs : Inputs) : Type 0 where
   pub counted : AreCounted named lattices marks (before ++ units)
 
 -- The files that are started, in order, by their names: the lattice file, the prelude, the sources and the saved file,
--- each only where
--- those before it have read. Given are the bytes of the parts: all that give the readings.
+-- each only where those before it have read. Given are the bytes of the parts: all that give the readings.
 pub data Starts (named : FileNames) (Given : Inputs → Type 0) : List (List ℕ) → Type 0 where
   LatticeAlone : Starts named Given (named.lattice ∷ [])
   ThenPrelude : (file : List ℕ) → named.prelude ≡ Some file

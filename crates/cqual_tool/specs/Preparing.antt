@@ -57,12 +57,13 @@ abbrev pub IsOneMore : Bool → List LatticeView → ℕ → List ℕ → List �
 IsOneMore wide lattices number file bytes before marks (joined.Refused answer) =
     (answer.status ≡ Malformed) × SourceRefused wide lattices number file bytes answer.text.items
 IsOneMore wide lattices number file bytes before marks (joined.Units it) =
-    (unit : UnitRead) × SourceParses wide lattices number bytes unit × IsEarlier (number + 1) (before ++ unit ∷ []) it × (it.prelude ≡ marks)
+    (unit : UnitRead) × SourceParses wide lattices number bytes unit × IsEarlier (number + 1) (before ++ unit ∷ []) it
+    × (it.prelude ≡ marks)
 
 -- A program of units, within the limits, with its constraints and its external functions: no flow leaves a function but
--- by a call, and
--- each constant and bound names a lattice and an element of it.
-pub record IsReady (named : FileNames) (lattices : List LatticeView) (marks : List IndexMark) (units : List UnitRead) (it : Ready) : Type 0 where
+-- by a call, and each constant and bound names a lattice and an element of it.
+pub record IsReady (named : FileNames) (lattices : List LatticeView) (marks : List IndexMark) (units : List UnitRead)
+    (it : Ready) : Type 0 where
   pub counted : AreCounted named lattices marks units
   pub differ : UnitsDiffer (sources_in units)
   pub units_are : it.tokens.items ≡ lexed_of units
@@ -87,24 +88,29 @@ pub data EndStarts (named : FileNames) : List (List ℕ) → Type 0 where
 
 -- some sources read as well-formed units
 abbrev pub AreParsed : Bool → List LatticeView → ℕ → ℕ → List (List ℕ × List ℕ) → Type 0
-AreParsed wide lattices number left sources = (units : List UnitRead) × SourcesParse wide lattices number left sources units
+AreParsed wide lattices number left sources =
+    (units : List UnitRead) × SourcesParse wide lattices number left sources units
 
 -- all sources read as well-formed units, which with those before them have no fault of names and types and are few
 -- enough
 abbrev pub AreRead : FileNames → List LatticeView → List UnitRead → List IndexMark → ℕ → ℕ → List (List ℕ × List ℕ)
     → Type 0
 AreRead named lattices before marks number left sources =
-    (units : List UnitRead) × SourcesParse named.wide lattices number left sources units × AreCounted named lattices marks (before ++ units)
+    (units : List UnitRead) × SourcesParse named.wide lattices number left sources units
+    × AreCounted named lattices marks (before ++ units)
 
 -- From some sources on, the first of which has this number: the files that are started, by their names.
-pub data SourcesStart (named : FileNames) (lattices : List LatticeView) (before : List UnitRead) (marks : List IndexMark) (number left : ℕ)
+pub data SourcesStart (named : FileNames) (lattices : List LatticeView) (before : List UnitRead)
+    (marks : List IndexMark) (number left : ℕ)
     (names : List (List ℕ)) (Given : Inputs → Type 0) : List (List ℕ) → Type 0 where
   NoneLeft : names ≡ [] → SourcesStart named lattices before marks number left names Given []
   SomeStart : (count : ℕ) → count < length names →
-      ((inputs : Inputs) → Given inputs → AreParsed named.wide lattices number left (take count (files_with names inputs.sources))) →
+      ((inputs : Inputs) → Given inputs
+      → AreParsed named.wide lattices number left (take count (files_with names inputs.sources))) →
       SourcesStart named lattices before marks number left names Given (take (suc count) names)
   SavedBehind : (file : List ℕ) → saved_in named ≡ Some file →
-      ((inputs : Inputs) → Given inputs → AreRead named lattices before marks number left (files_with names inputs.sources)) →
+      ((inputs : Inputs) → Given inputs
+      → AreRead named lattices before marks number left (files_with names inputs.sources)) →
       SourcesStart named lattices before marks number left names Given (names ++ file ∷ [])
 
 -- the units before the sources and so many sources read, as they must before the next source is started
@@ -122,7 +128,8 @@ pub record AllAreRead (named : FileNames) (lattices : List LatticeView) (inputs 
   pub read : AreRead named lattices before marks 1 total_limit (sources_of named inputs)
 
 -- behind the lattice file; none where memory is wanting before
-pub data UnitsStart (named : FileNames) (lattices : List LatticeView) (Given : Inputs → Type 0) : List (List ℕ) → Type 0 where
+pub data UnitsStart (named : FileNames) (lattices : List LatticeView) (Given : Inputs → Type 0) : List (List ℕ)
+    → Type 0 where
   NoUnit : UnitsStart named lattices Given []
   PreludeAlone : (file : List ℕ) → named.prelude ≡ Some file → UnitsStart named lattices Given (file ∷ [])
   SourceToo : (count : ℕ) → count < length named.sources →

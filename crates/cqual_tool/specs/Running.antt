@@ -9,9 +9,9 @@ use Rattle.cqual_tool.specs.Outcome.{Answers, IsAnswer, StartsFor}
 use Rattle.cqual_tool.specs.Sending.{AppendsFront}
 
 -- Of the words: the files before it and after it, the bytes that were written and the puts that failed before and after
--- it, the
--- status that it answers, and its readings.
-pub record Ran (words : List (List ℕ)) (old new : Standing) (before after : List ℕ) (failed fails : ℕ) (status : Status) (these : List Reading)
+-- it, the status that it answers, and its readings.
+pub record Ran (words : List (List ℕ)) (old new : Standing) (before after : List ℕ) (failed fails : ℕ) (status : Status)
+    (these : List Reading)
     : Type 0 where
   pub read : ReadOn old new these
   pub in_turn : AreWhole these

@@ -30,8 +30,7 @@ abbrev pub externals_held : List UnitText → Ready → List External
 externals_held units it = map (external_at units it.made.skeletons) it.functions.items
 
 -- Signatures may be asked of a program: no two of its units have one number, its skeletons have their variables in
--- pre-order, and no
--- function owns nodes of two external ones.
+-- pre-order, and no function owns nodes of two external ones.
 pub record MaySign (it : Ready) : Type 0 where
   pub units : (named : FileNames) → AreApart (texts_of named it.tokens.items)
   pub skeletons : AreInOrder it.made.skeletons
@@ -40,11 +39,13 @@ pub record MaySign (it : Ready) : Type 0 where
 -- the line of a library whose constraint of this number has a variable of nobody
 abbrev pub SaysShared : Scene → System → ℕ → Answer → Type 0
 SaysShared scene sys n answer = (constraint : Constraint) × (slice_get sys.constraints n ≡ Some constraint)
-    × Says NoSignature (no_signature_at (place_text scene constraint.span.unit constraint.span.from) (codes "U2")) answer
+    × Says NoSignature
+    (no_signature_at (place_text scene constraint.span.unit constraint.span.from) (codes "U2")) answer
 
 -- the line of a library of which a function has no signature; want of memory has none
 abbrev pub SaysRefused : Scene → SigFault → Answer → Type 0
-SaysRefused scene (Unwritable p) answer = Says NoSignature (no_signature_at (place_text scene p.0 p.1) (codes "U3")) answer
+SaysRefused scene (Unwritable p) answer =
+    Says NoSignature (no_signature_at (place_text scene p.0 p.1) (codes "U3")) answer
 SaysRefused scene (NoSign p) answer = Says NoSignature (no_signature_at (place_text scene p.0 p.1) (codes "U4")) answer
 SaysRefused scene OutOfMemory answer = ⊥
 

@@ -1,6 +1,5 @@
 -- The lines of words without a meaning, of files that do not read, of names that are not declared and of libraries
--- without
--- signatures.
+-- without signatures.
 use Rattle.std.specs.Prelude.{ℕ, List, ◌++◌, codes}
 use Rattle.annotate.specs.Texts.{line}
 

@@ -14,7 +14,7 @@ use crate::making::made_answer;
 use crate::reading::answer;
 use crate::sending::send;
 use crate::status::Status;
-use crate::taking::Stop;
+use crate::taking::Failure;
 use crate::words::of_files;
 use cqual_words::{Asked, meaning};
 use outside::{Files, Sink};
@@ -36,7 +36,7 @@ fn finish<O: Sink>(out: &mut O, status: Status, text: &[u8]) -> Status
 }
 
 /// The answer for what is asked.
-fn answer_for<F: Files>(alloc: Global, asked: &Asked<'_>, files: &mut F) -> Result<Answer, Stop>
+fn answer_for<F: Files>(alloc: Global, asked: &Asked<'_>, files: &mut F) -> Result<Answer, Failure>
     requires made { AsksMade asked.now }
     requires sources { NamesSources asked.now }
     ensures reads { TaskAnswered
@@ -67,8 +67,8 @@ pub fn decide_and_write<F: Files, O: Sink>(
     match meaning(alloc, words) {
         Ok(Some(asked)) => match answer_for(alloc, &asked, files) {
             Ok(answer) => finish(out, answer.status, &answer.text),
-            Err(Stop::ReadFault) => Status::ReadFault,
-            Err(Stop::NoMemory) => Status::NoMemory,
+            Err(Failure::ReadFault) => Status::ReadFault,
+            Err(Failure::NoMemory) => Status::NoMemory,
         },
         Ok(None) => finish(out, Status::BadWords, USAGE),
         Err(_) => Status::NoMemory,

@@ -26,7 +26,7 @@ use crate::answer::{Answer, no_name};
 use crate::preparing::{Ready, texts};
 use crate::signing::sign;
 use crate::status::Status;
-use crate::taking::{SAVED_LIMIT, Stop, taken, too_large};
+use crate::taking::{Failure, SAVED_LIMIT, taken, too_large};
 use crate::words::Named;
 use annotate::{Judged, Scene, UnitText, judge_with};
 use certificate_checks::{Verdict, judge_certificate, put_verdict};
@@ -347,7 +347,7 @@ pub fn end<F: Files>(
     lattices: &Lattices,
     ready: &Ready<'_>,
     files: &mut F,
-) -> Result<Answer, Stop>
+) -> Result<Answer, Failure>
     requires named { AllNamed lattices.now ready.now.made.graph }
     requires owned { IsWellOwned ready.now.made.graph }
     requires elements { NamesElements ready.now.made.graph (orders_of lattices.now) }

@@ -26,13 +26,13 @@ pub fn prelude_refused(
 {
     match fault {
         PreludeFault::Lex(fault) => source_refused(alloc, file, bytes, fault),
-        PreludeFault::Parse(fault, spot) => {
-            spot_refused(alloc, file, bytes, spot, syntax::code_of(fault))
+        PreludeFault::Parse(rule, spot) => {
+            spot_refused(alloc, file, bytes, spot, syntax::code_of(*rule))
         }
         PreludeFault::HasBody(spot) => spot_refused(alloc, file, bytes, spot, b"P1"),
         PreludeFault::BadIndex(spot) => spot_refused(alloc, file, bytes, spot, b"P2"),
         PreludeFault::Shape(fault, spot) => {
-            spot_refused(alloc, file, bytes, spot, shapes::code_of(fault))
+            spot_refused(alloc, file, bytes, spot, shapes::code_of(fault.rule))
         }
         PreludeFault::NoMemory => Err(NoMemory),
     }

@@ -16,7 +16,7 @@ use crate::ending::end;
 use crate::faults::lattice_refused;
 use crate::preludes::prelude_refused;
 use crate::preparing::{Earlier, Joined, Prepared, judged, nothing_before, read_source};
-use crate::taking::{LATTICE_LIMIT, SOURCE_LIMIT, Stop, TOTAL_LIMIT, taken, too_large};
+use crate::taking::{Failure, LATTICE_LIMIT, SOURCE_LIMIT, TOTAL_LIMIT, taken, too_large};
 use crate::words::Named;
 use c_types::Units;
 use cq_prelude::{PreludeRead, read_prelude};
@@ -45,7 +45,7 @@ fn finish<F: Files>(
     lattices: &Lattices,
     earlier: Earlier<'_>,
     files: &mut F,
-) -> Result<Answer, Stop>
+) -> Result<Answer, Failure>
     requires before { (number : ℕ) × (units : List UnitRead) × IsEarlier number units earlier }
     ensures reads { (number left : ℕ) (units : List UnitRead) →
         IsEarlier number units earlier.entry → SourcesAnswered
@@ -71,7 +71,7 @@ fn take_sources<F: Files>(
     left: usize,
     earlier: Earlier<'_>,
     files: &mut F,
-) -> Result<Answer, Stop>
+) -> Result<Answer, Failure>
     requires words { MeansTheSame words.now (words_of lattices.now) }
     requires few { length (files_in named.now).sources ≤ 256 }
     requires within { index ≤ length (files_in named.now).sources }
@@ -116,7 +116,7 @@ fn take_prelude<F: Files>(
     words: &QualWords,
     file: &str,
     files: &mut F,
-) -> Result<Answer, Stop>
+) -> Result<Answer, Failure>
     requires words { MeansTheSame words.now (words_of lattices.now) }
     requires named { (files_in named.now).prelude ≡ Some file.now }
     requires some { 1 ≤ length (files_in named.now).sources }
@@ -154,7 +154,7 @@ fn take_units<F: Files>(
     named: &Named<'_>,
     lattices: &Lattices,
     files: &mut F,
-) -> Result<Answer, Stop>
+) -> Result<Answer, Failure>
     requires some { 1 ≤ length (files_in named.now).sources }
     requires few { length (files_in named.now).sources ≤ 256 }
     ensures reads { UnitsAnswered
@@ -180,7 +180,7 @@ fn take_units<F: Files>(
 }
 
 /// The answer for files that are named, in the order in which they are read.
-pub fn answer<F: Files>(alloc: Global, named: &Named<'_>, files: &mut F) -> Result<Answer, Stop>
+pub fn answer<F: Files>(alloc: Global, named: &Named<'_>, files: &mut F) -> Result<Answer, Failure>
     requires some { 1 ≤ length (files_in named.now).sources }
     requires few { length (files_in named.now).sources ≤ 256 }
     ensures reads { FilesAnswered

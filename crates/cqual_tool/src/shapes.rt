@@ -5,30 +5,30 @@ ghost use Rattle.unit_types.specs.declared.fault.ShapeFault.TheVariants as Stops
 ghost use Rattle.annotate.specs.Scenes.{units_of};
 ghost use Rattle.cqual_tool.specs.declared.status.Status.TheVariants as Statuses;
 ghost use Rattle.cqual_tool.specs.Statuses.{Says};
+ghost use Rattle.unit_shapes.specs.Faults.{rule_of};
 ghost use Rattle.cqual_tool.specs.Shapes.{shape_code, shape_line, unit_line};
 
 use crate::answer::{Answer, malformed};
 use crate::syntax::token_refused;
 use annotate::{UnitText, find_unit};
-use c_types::ShapeFault;
+use c_types::{Rule, ShapeFault};
 use qual_base::{NoMemory, TokenId, UnitNo};
 use std::alloc::Global;
 
-/// The code of a fault; none for want of memory.
-pub fn code_of(fault: &ShapeFault) -> &'static [u8]
-    ensures { result.now ≡ shape_code fault.now }
+/// The code of a rule of names and types.
+pub fn code_of(rule: Rule) -> &'static [u8]
+    ensures { result.now ≡ shape_code (rule_of rule) }
 {
-    match fault {
-        ShapeFault::Undeclared(_, _) => b"H1",
-        ShapeFault::NotPointer(_, _) => b"H2",
-        ShapeFault::NotFunction(_, _) => b"H3",
-        ShapeFault::NoMember(_, _) => b"H4",
-        ShapeFault::ArgCount(_, _) => b"H5",
-        ShapeFault::NotPlace(_, _) => b"H6",
-        ShapeFault::DefinedTwice(_, _) => b"H7",
-        ShapeFault::TypeTooLarge(_, _) => b"H8",
-        ShapeFault::NoType(_, _) => b"H9",
-        ShapeFault::NoMemory => b"",
+    match rule {
+        Rule::Undeclared => b"H1",
+        Rule::NotPointer => b"H2",
+        Rule::NotFunction => b"H3",
+        Rule::NoMember => b"H4",
+        Rule::ArgCount => b"H5",
+        Rule::NotPlace => b"H6",
+        Rule::DefinedTwice => b"H7",
+        Rule::TypeTooLarge => b"H8",
+        Rule::NoType => b"H9",
     }
 }
 
@@ -61,16 +61,11 @@ pub fn names_refused(
         (Says Statuses.Malformed (shape_line file.now (units_of units.now) fault)) }
     ensures reason { IfOk result (λ _. fault ≢ Stops.NoMemory) }
 {
-    match fault {
-        ShapeFault::Undeclared(unit, token) => at_fault(alloc, file, units, unit, token, b"H1"),
-        ShapeFault::NotPointer(unit, token) => at_fault(alloc, file, units, unit, token, b"H2"),
-        ShapeFault::NotFunction(unit, token) => at_fault(alloc, file, units, unit, token, b"H3"),
-        ShapeFault::NoMember(unit, token) => at_fault(alloc, file, units, unit, token, b"H4"),
-        ShapeFault::ArgCount(unit, token) => at_fault(alloc, file, units, unit, token, b"H5"),
-        ShapeFault::NotPlace(unit, token) => at_fault(alloc, file, units, unit, token, b"H6"),
-        ShapeFault::DefinedTwice(unit, token) => at_fault(alloc, file, units, unit, token, b"H7"),
-        ShapeFault::TypeTooLarge(unit, token) => at_fault(alloc, file, units, unit, token, b"H8"),
-        ShapeFault::NoType(unit, token) => at_fault(alloc, file, units, unit, token, b"H9"),
+    match &fault {
+        ShapeFault::Found(it) => {
+            let (unit, token) = it.at;
+            at_fault(alloc, file, units, unit, token, code_of(it.rule))
+        }
         ShapeFault::NoMemory => Err(NoMemory),
     }
 }

@@ -1,7 +1,7 @@
 //! The answers for files that are no well-formed unit.
 
 ghost use Rattle.std.specs.Prelude.{◌≡◌, ◌≢◌, IfOk};
-ghost use Rattle.c_parser.specs.declared.parsing.ParseFault.TheVariants as Stops;
+ghost use Rattle.reader_base.specs.declared.fault.ReadError.TheVariants as Stops;
 ghost use Rattle.cqual_tool.specs.declared.status.Status.TheVariants as Statuses;
 ghost use Rattle.cqual_tool.specs.Statuses.{Says};
 ghost use Rattle.cqual_tool.specs.Syntax.{syntax_code, syntax_line, token_line};
@@ -9,7 +9,7 @@ ghost use Rattle.cqual_tool.specs.Syntax.{syntax_code, syntax_line, token_line};
 use crate::answer::{Answer, malformed, placed};
 use annotate::put_spot;
 use c_lexer::Tokens;
-use c_parser::ParseFault;
+use c_parser::{FaultKind, ReadError};
 use qual_base::{NoMemory, Numbered, TokenId};
 use std::alloc::Global;
 
@@ -33,17 +33,16 @@ pub(crate) fn token_refused(
     Ok(placed(alloc, &place, code)?)
 }
 
-/// The code of a fault; none for want of memory.
-pub fn code_of(fault: &ParseFault) -> &'static [u8]
-    ensures { result.now ≡ syntax_code fault.now }
+/// The code of a rule of the grammar.
+pub fn code_of(rule: FaultKind) -> &'static [u8]
+    ensures { result.now ≡ syntax_code rule }
 {
-    match fault {
-        ParseFault::Syntax(_) => b"S1",
-        ParseFault::TooDeep(_) => b"S2",
-        ParseFault::Redeclared(_) => b"N1",
-        ParseFault::BadMix(_) => b"C1",
-        ParseFault::BadTarget(_) => b"O1",
-        ParseFault::NoMemory => b"",
+    match rule {
+        FaultKind::Unexpected => b"S1",
+        FaultKind::TooDeep => b"S2",
+        FaultKind::Redeclared => b"N1",
+        FaultKind::BadMix => b"C1",
+        FaultKind::BadTarget => b"O1",
     }
 }
 
@@ -52,17 +51,13 @@ pub fn unit_refused(
     alloc: Global,
     file: &str,
     tokens: &Tokens,
-    fault: ParseFault,
+    fault: ReadError,
 ) -> Result<Answer, NoMemory>
     ensures line { IfOk result (Says Statuses.Malformed (syntax_line file.now tokens.now fault)) }
     ensures reason { IfOk result (λ _. fault ≢ Stops.NoMemory) }
 {
     match fault {
-        ParseFault::Syntax(token) => token_refused(alloc, file, tokens, token, b"S1"),
-        ParseFault::TooDeep(token) => token_refused(alloc, file, tokens, token, b"S2"),
-        ParseFault::Redeclared(token) => token_refused(alloc, file, tokens, token, b"N1"),
-        ParseFault::BadMix(token) => token_refused(alloc, file, tokens, token, b"C1"),
-        ParseFault::BadTarget(token) => token_refused(alloc, file, tokens, token, b"O1"),
-        ParseFault::NoMemory => Err(NoMemory),
+        ReadError::Fault(rule, token) => token_refused(alloc, file, tokens, token, code_of(rule)),
+        ReadError::NoMemory => Err(NoMemory),
     }
 }

@@ -26,19 +26,19 @@ pub const SAVED_LIMIT: usize = 268_435_456;
 
 /// Why nothing is written.
 #[derive(Clone, Copy, PartialEq, Eq, Debug)]
-pub enum Stop {
+pub enum Failure {
     ReadFault,
     NoMemory,
 }
 
-impl From<NoMemory> for Stop {
+impl From<NoMemory> for Failure {
     ghost use Rattle.std.specs.Prelude.{◌≡◌};
-    ghost use Rattle.cqual_tool.specs.declared.taking.Stop.TheVariants as stops;
+    ghost use Rattle.cqual_tool.specs.declared.taking.Failure.TheVariants as failures;
 
-    ghost from_gives = { λ _ stop. stop ≡ stops.NoMemory };
+    ghost from_gives = { λ _ failure. failure ≡ failures.NoMemory };
 
-    fn from(_: NoMemory) -> Stop {
-        Stop::NoMemory
+    fn from(_: NoMemory) -> Failure {
+        Failure::NoMemory
     }
 }
 
@@ -48,7 +48,7 @@ pub fn taken<F: Files>(
     files: &mut F,
     name: &str,
     limit: usize,
-) -> Result<Option<Vec<u8>>, Stop>
+) -> Result<Option<Vec<u8>>, Failure>
     requires { limit < usize.MAX }
     ensures read { (reading : Reading)
         × ReadOn (stands (F.log files.old) (F.failed files.old) (F.contents files.old))
@@ -58,8 +58,8 @@ pub fn taken<F: Files>(
     match take_all(alloc, files, name, limit) {
         Ok(bytes) => Ok(Some(bytes)),
         Err(TakeFault::TooLarge) => Ok(None),
-        Err(TakeFault::ReadFault) => Err(Stop::ReadFault),
-        Err(TakeFault::NoMemory) => Err(Stop::NoMemory),
+        Err(TakeFault::ReadFault) => Err(Failure::ReadFault),
+        Err(TakeFault::NoMemory) => Err(Failure::NoMemory),
     }
 }
 

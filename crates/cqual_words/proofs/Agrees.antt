@@ -33,7 +33,8 @@ agrees words =
     let stop = (Rattle.clap.specs.Walk.walk shape.rules [] nothing_held words).stopped in
     let same : fault_of tool words ≡ level_fault shape [] nothing_held words false [] =
     ap₂ (λ b ks. level_fault shape [] nothing_held words b ks) (no_entered stop) (no_entered_fault stop) in
-    subst (λ ks. Judged ks (matches_of tool words) (asked_behind words)) (sym same) (walks words [] Free (λ a other. refl))
+    subst (λ ks. Judged ks (matches_of tool words) (asked_behind words)) (sym same)
+    (walks words [] Free (λ a other. refl))
 
 -- matches without a fault say which flags stand, and ask what the words mean
 pub matches_right : (words : List Text) (f : Found) → fault_of tool words ≡ [] → rows_of f ≡ matches_of tool words
@@ -41,7 +42,8 @@ pub matches_right : (words : List Text) (f : Found) → fault_of tool words ≡ 
     × (asked_by stands (λ id. first_value f id) (raw_of f (codes "source")) ≡ asked_behind words)
 matches_right words f fine rows =
     let judged : Judged [] (rows_of f) (asked_behind words) =
-    subst (λ rs. Judged [] rs (asked_behind words)) (sym rows) (subst (λ ks. Judged ks (matches_of tool words) (asked_behind words)) fine
+    subst (λ rs. Judged [] rs (asked_behind words)) (sym rows)
+    (subst (λ ks. Judged ks (matches_of tool words) (asked_behind words)) fine
     (agrees words)) in (
       judged.0,
       (λ flag. one_text-rows f (flag_name flag) ∙ judged.1 flag),

@@ -77,7 +77,8 @@ own_default : (a : Part) (rows : List Row)
     → all_of (name_of a) (with_default rows (rule_for a)) ≡ with_off a (all_of (name_of a) rows)
 own_default (Valued key) rows = ap (all_of (key_name key)) (cond_same (has_row (key_name key) rows) rows)
 own_default Source rows = ap (all_of (codes "source")) (cond_same (has_row (codes "source") rows) rows)
-own_default (Flagged flag) rows = go (has_row (flag_name flag) rows) (all_of (flag_name flag) rows) (some_row (flag_name flag) rows)
+own_default (Flagged flag) rows =
+    go (has_row (flag_name flag) rows) (all_of (flag_name flag) rows) (some_row (flag_name flag) rows)
     (all_more (flag_name flag) DefaultValue (codes "false") rows (part_same (Flagged flag))) refl
   where
     go : (b : Bool) (o : Option (List Text)) → b ≡ is_some o
@@ -130,7 +131,8 @@ texts_behind a (b ∷ bs) rows = texts_behind a bs (with_default rows (rule_for 
 end_texts : (a : Part) (ps : List Piece)
     → all_of (name_of a) (end_rows (rows_at ps)) ≡ with_off a (joined None (texts_of a ps))
 end_texts a ps = texts_behind a parts (rows_at ps)
-    ∙ ap (λ o. cond (is_some o) (with_off a (all_of (name_of a) (rows_at ps))) (all_of (name_of a) (rows_at ps))) (found a)
+    ∙ ap
+    (λ o. cond (is_some o) (with_off a (all_of (name_of a) (rows_at ps))) (all_of (name_of a) (rows_at ps))) (found a)
     ∙ ap (with_off a) (texts_are a ps)
 
 -- ---- a flag that stands has the text `true`
@@ -279,13 +281,15 @@ first_at ps id = first_of id (end_rows (rows_at ps))
 
 -- where each option stands once, a part among the matches is fit just if its texts among the pieces are
 part_fits : (ps : List Piece) → OnceEach ps → (a : Part) → fits_part (first_at ps) a ≡ options_fit ps a
-part_fits ps once (Valued key) = ap is_fit (value_is ps key) ∙ fit_once (texts_of (Valued key) ps) (once (Valued key) refl)
+part_fits ps once (Valued key) =
+    ap is_fit (value_is ps key) ∙ fit_once (texts_of (Valued key) ps) (once (Valued key) refl)
 part_fits ps once (Flagged flag) = flag_fit (texts_of (Flagged flag) ps) (flag_texts flag ps) (once (Flagged flag) refl)
 part_fits ps once Source = refl
 
 -- what the pieces ask, with the sources looked at first
 sources_first : (ps : List Piece)
-    → option_and_then (λ sources. cond (list_all (options_fit ps) parts) (task_of_parts (value_among ps) (stands_among ps) sources) None)
+    → option_and_then
+    (λ sources. cond (list_all (options_fit ps) parts) (task_of_parts (value_among ps) (stands_among ps) sources) None)
     (sources_of (texts_of Source ps)) ≡ task_in ps
 sources_first ps = go (are_fit Source (texts_of Source ps)) refl
   where
@@ -298,7 +302,8 @@ sources_first ps = go (are_fit Source (texts_of Source ps)) refl
     same e Source = sym e
 
     go : (b : Bool) → are_fit Source (texts_of Source ps) ≡ b
-        → option_and_then (λ sources. asked (list_all (options_fit ps) parts) sources) (cond b (Some (texts_of Source ps)) None)
+        → option_and_then (λ sources. asked (list_all (options_fit ps) parts) sources)
+        (cond b (Some (texts_of Source ps)) None)
         ≡ asked (list_all (λ a. are_fit a (texts_of a ps)) parts) (texts_of Source ps)
     go true e = λ i. asked (list_all (λ a. same e a i) parts) (texts_of Source ps)
     go false e = ap (λ b. asked b (texts_of Source ps)) (sym (fails (λ a. are_fit a (texts_of a ps)) Source e))

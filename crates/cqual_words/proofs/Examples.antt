@@ -5,7 +5,8 @@ use Rattle.cqual_words.specs.Words.{Text, Annotate, Ask, Certify, Check, Generat
 use Rattle.cqual_words.specs.Words.{pieces_from}
 
 -- options in any order, with the value apart or attached
-apart : meaning_of (codes "--lattice" ∷ codes "l.q" ∷ codes "s.c" ∷ []) ≡ Some (Ask Infer (files_of (codes "l.q") None (codes "s.c" ∷ [])))
+apart : meaning_of (codes "--lattice" ∷ codes "l.q" ∷ codes "s.c" ∷ [])
+    ≡ Some (Ask Infer (files_of (codes "l.q") None (codes "s.c" ∷ [])))
 unfolding pieces_from
 apart = refl
 
@@ -14,7 +15,8 @@ attached : meaning_of (codes "--prelude=p.h" ∷ codes "s.c" ∷ codes "--lattic
 unfolding pieces_from
 attached = refl
 
-first_equals : meaning_of (codes "--lattice==x" ∷ codes "s.c" ∷ []) ≡ Some (Ask Infer (files_of (codes "=x") None (codes "s.c" ∷ [])))
+first_equals : meaning_of (codes "--lattice==x" ∷ codes "s.c" ∷ [])
+    ≡ Some (Ask Infer (files_of (codes "=x") None (codes "s.c" ∷ [])))
 unfolding pieces_from
 first_equals = refl
 
@@ -49,9 +51,11 @@ unfolding pieces_from
 asked_to_sign = refl
 
 -- sources before, between and behind the options, and behind `--`; one name twice is two sources
-several : meaning_of (codes "s.c" ∷ codes "--lattice" ∷ codes "l.q" ∷ codes "t.c" ∷ codes "--prelude=p.h" ∷ codes "s.c" ∷ codes "--"
+several : meaning_of
+    (codes "s.c" ∷ codes "--lattice" ∷ codes "l.q" ∷ codes "t.c" ∷ codes "--prelude=p.h" ∷ codes "s.c" ∷ codes "--"
     ∷ codes "u.c" ∷ [])
-    ≡ Some (Ask Infer (files_of (codes "l.q") (Some (codes "p.h")) (codes "s.c" ∷ codes "t.c" ∷ codes "s.c" ∷ codes "u.c" ∷ [])))
+    ≡ Some (Ask Infer
+    (files_of (codes "l.q") (Some (codes "p.h")) (codes "s.c" ∷ codes "t.c" ∷ codes "s.c" ∷ codes "u.c" ∷ [])))
 unfolding pieces_from
 several = refl
 
@@ -65,13 +69,15 @@ certified_several : meaning_of (codes "s.c" ∷ codes "--lattice=l.q" ∷ codes 
 unfolding pieces_from
 certified_several = refl
 
-verified_several : meaning_of (codes "--verify=c" ∷ codes "s.c" ∷ codes "--prelude=p.h" ∷ codes "--lattice=l.q" ∷ codes "--" ∷ codes "t.c" ∷ [])
+verified_several : meaning_of
+    (codes "--verify=c" ∷ codes "s.c" ∷ codes "--prelude=p.h" ∷ codes "--lattice=l.q" ∷ codes "--" ∷ codes "t.c" ∷ [])
     ≡ Some (Ask (Verify (codes "c")) (files_of (codes "l.q") (Some (codes "p.h")) (codes "s.c" ∷ codes "t.c" ∷ [])))
 unfolding pieces_from
 verified_several = refl
 
 -- the name is any text with a meaning, also one that no identifier has
-who_several : meaning_of (codes "s.c" ∷ codes "--who=a b=" ∷ codes "--prelude=p.h" ∷ codes "--lattice=l.q" ∷ codes "t.c" ∷ [])
+who_several : meaning_of
+    (codes "s.c" ∷ codes "--who=a b=" ∷ codes "--prelude=p.h" ∷ codes "--lattice=l.q" ∷ codes "t.c" ∷ [])
     ≡ Some (Ask (Who (codes "a b=")) (files_of (codes "l.q") (Some (codes "p.h")) (codes "s.c" ∷ codes "t.c" ∷ [])))
 unfolding pieces_from
 who_several = refl
@@ -158,19 +164,23 @@ both_reports : meaning_of (codes "--lattice=l.q" ∷ codes "s.c" ∷ codes "--an
 unfolding pieces_from
 both_reports = refl
 
-certified_and_verified : meaning_of (codes "--lattice=l.q" ∷ codes "s.c" ∷ codes "--certify" ∷ codes "--verify=c" ∷ []) ≡ None
+certified_and_verified : meaning_of
+    (codes "--lattice=l.q" ∷ codes "s.c" ∷ codes "--certify" ∷ codes "--verify=c" ∷ []) ≡ None
 unfolding pieces_from
 certified_and_verified = refl
 
-certified_and_annotated : meaning_of (codes "--lattice=l.q" ∷ codes "s.c" ∷ codes "--certify" ∷ codes "--annotate" ∷ []) ≡ None
+certified_and_annotated : meaning_of
+    (codes "--lattice=l.q" ∷ codes "s.c" ∷ codes "--certify" ∷ codes "--annotate" ∷ []) ≡ None
 unfolding pieces_from
 certified_and_annotated = refl
 
-verified_and_annotated : meaning_of (codes "--lattice=l.q" ∷ codes "s.c" ∷ codes "--verify=c" ∷ codes "--annotate" ∷ []) ≡ None
+verified_and_annotated : meaning_of
+    (codes "--lattice=l.q" ∷ codes "s.c" ∷ codes "--verify=c" ∷ codes "--annotate" ∷ []) ≡ None
 unfolding pieces_from
 verified_and_annotated = refl
 
-checked_and_verified : meaning_of (codes "--lattice=l.q" ∷ codes "s.c" ∷ codes "--check=r" ∷ codes "--verify=c" ∷ []) ≡ None
+checked_and_verified : meaning_of
+    (codes "--lattice=l.q" ∷ codes "s.c" ∷ codes "--check=r" ∷ codes "--verify=c" ∷ []) ≡ None
 unfolding pieces_from
 checked_and_verified = refl
 
@@ -190,7 +200,8 @@ who_and_verified : meaning_of (codes "--lattice=l.q" ∷ codes "s.c" ∷ codes "
 unfolding pieces_from
 who_and_verified = refl
 
-signed_and_certified : meaning_of (codes "--lattice=l.q" ∷ codes "s.c" ∷ codes "--signatures" ∷ codes "--certify" ∷ []) ≡ None
+signed_and_certified : meaning_of
+    (codes "--lattice=l.q" ∷ codes "s.c" ∷ codes "--signatures" ∷ codes "--certify" ∷ []) ≡ None
 unfolding pieces_from
 signed_and_certified = refl
 
@@ -199,7 +210,8 @@ unfolding pieces_from
 signed_and_who = refl
 
 -- signatures are of sources alone
-signed_with_prelude : meaning_of (codes "--lattice=l.q" ∷ codes "--prelude=p.h" ∷ codes "s.c" ∷ codes "--signatures" ∷ []) ≡ None
+signed_with_prelude : meaning_of
+    (codes "--lattice=l.q" ∷ codes "--prelude=p.h" ∷ codes "s.c" ∷ codes "--signatures" ∷ []) ≡ None
 unfolding pieces_from
 signed_with_prelude = refl
 

@@ -60,7 +60,9 @@ behind_has words = go (list_all (λ part. are_fit part (texts_of part pieces)) p
 
     go : (b : Bool)
         → AllFit (cond b (task_of_parts (value_among pieces) (stands_among pieces) (texts_of Source pieces)) None)
-    go true = task_has (value_among pieces Lattice) (value_among pieces Prelude) (value_among pieces Number) _ (texts_of Source pieces)
+    go true =
+        task_has (value_among pieces Lattice) (value_among pieces Prelude) (value_among pieces Number) _
+        (texts_of Source pieces)
     go false = tt
 
 -- what fits still does when its sources are read as wider C
@@ -70,7 +72,8 @@ widened_has wide (Some (Ask question files)) fit = fit
 widened_has wide (Some (Generate number)) fit = tt
 
 words_have : (words : List Text) → AllFit (meaning_of words)
-words_have words = widened_has (behind_wide words).0 (asked_behind (behind_wide words).1) (behind_has (behind_wide words).1)
+words_have words =
+    widened_has (behind_wide words).0 (asked_behind (behind_wide words).1) (behind_has (behind_wide words).1)
 
 -- a question that words ask has as many sources as it may have
 pub asked_fits : (words : List Text) (question : Question) (files : FileNames)

@@ -43,8 +43,10 @@ looks (a ∷ b ∷ c ∷ more) = go (a == 45) (b == 45) refl refl
   where
     go : (p q : Bool) → (a == 45) ≡ p → (b == 45) ≡ q → Looks (a ∷ b ∷ c ∷ more)
     go false q e f = Other (rw e refl) (rw e refl) (rw e refl) (rw e refl)
-    go true false e f = Short b (c ∷ more) (rw (e, f) refl) (rw (e, f) refl) (rw (e, f) refl) (rw (e, f) refl) (rw e refl)
-    go true true e f = Long (name_in (c ∷ more)) (value_in (c ∷ more)) (rw (e, f) refl) (rw (e, f) refl) (rw (e, f) refl) (rw e refl)
+    go true false e f =
+        Short b (c ∷ more) (rw (e, f) refl) (rw (e, f) refl) (rw (e, f) refl) (rw (e, f) refl) (rw e refl)
+    go true true e f =
+        Long (name_in (c ∷ more)) (value_in (c ∷ more)) (rw (e, f) refl) (rw (e, f) refl) (rw (e, f) refl) (rw e refl)
 
 -- ---- what clap makes of each
 

@@ -6,11 +6,8 @@ use Rattle.std.specs.List.{list_all}
 use Rattle.std.specs.Char.{digit_value}
 use Rattle.std.specs.Str.Parse.{AllDigits, IsNumeral, digits_value, digits_value_after, without_leading_plus}
 use Rattle.std.proofs.lemmas.Bool.Decides.{nat_tests}
+use Rattle.std.proofs.lemmas.Bool.{and_parts}
 use Rattle.cqual_words.specs.Words.{Text, begins_number, is_digit, is_numeral, number_of}
-
-both : (a b : Bool) → (a && b) ≡ true → (a ≡ true) × (b ≡ true)
-both true b e = (refl, e)
-both false b e = absurd (true≢false (sym e))
 
 -- a digit has a value below ten
 digit_below : (b : ℕ) → is_digit b ≡ true → digit_value b < 10
@@ -28,7 +25,7 @@ digits_pass (d ∷ ds) h = rw (below_digit d h.0) (digits_pass ds h.1)
 digits_from : (ds : List ℕ) → list_all is_digit ds ≡ true → AllDigits 10 ds
 digits_from [] h = tt
 digits_from (d ∷ ds) h =
-    let parts = both _ _ h in
+    let parts = and_parts _ _ h in
     (digit_below d parts.0, digits_from ds parts.1)
 
 no_plus : (b : ℕ) → (nat_le 49 b && nat_le b 57) ≡ true → (b == 43) ≡ false
@@ -57,7 +54,8 @@ read_number text n begins h is most =
     let same = plusless text begins in
     let digits : list_all is_digit text ≡ true = digits_pass text (subst (AllDigits 10) same h.0.1) in
     let n_is : n ≡ digits_value 10 text = is ∙ ap (digits_value 10) same in
-    let small : nat_le (digits_value 10 text) 1000 ≡ true = subst (λ m. nat_le m 1000 ≡ true) n_is (le-leb n 1000 most) in
+    let small : nat_le (digits_value 10 text) 1000 ≡ true =
+    subst (λ m. nat_le m 1000 ≡ true) n_is (le-leb n 1000 most) in
     rw (begins, digits, small) (ap Some n_is)
 
 -- digits behind a number write no less than it
@@ -81,7 +79,8 @@ begins_some (b ∷ more) h =
 -- the number that it read is at least 1
 pub read_some : (text : Text) (n : ℕ) → begins_number text ≡ true → n ≡ digits_value 10 (without_leading_plus text)
     → 1 ≤ n
-read_some text n begins is = subst (λ m. 1 ≤ m) (sym (is ∙ ap (digits_value 10) (plusless text begins))) (begins_some text begins)
+read_some text n begins is =
+    subst (λ m. 1 ≤ m) (sym (is ∙ ap (digits_value 10) (plusless text begins))) (begins_some text begins)
 
 -- what it did not read
 pub no_number : (text : Text) → begins_number text ≡ true → (IsRead text → ⊥) → None ≡ number_of text
@@ -90,8 +89,9 @@ no_number text begins h = go (is_numeral text && nat_le (digits_value 10 text) 1
     go : (t : Bool) → (is_numeral text && nat_le (digits_value 10 text) 1000) ≡ t → None ≡ number_of text
     go false t = rw t refl
     go true t =
-        let parts = both (is_numeral text) (nat_le (digits_value 10 text) 1000) t in
-        let digits = digits_from text (both (begins_number text) (list_all is_digit text) parts.0).1 in
+        let parts = and_parts (is_numeral text) (nat_le (digits_value 10 text) 1000) t in
+        let digits = digits_from text (and_parts (begins_number text) (list_all is_digit text) parts.0).1 in
         let same = sym (plusless text begins) in
         let within = below_word (digits_value 10 text) (leb-true (digits_value 10 text) 1000 parts.1) in
-        absurd (h (subst (λ ds. IsNumeral 10 ds × (digits_value 10 ds < 2 ^ 32)) same ((some_length text begins, digits), within)))
+        absurd (h (subst (λ ds. IsNumeral 10 ds × (digits_value 10 ds < 2 ^ 32)) same
+        ((some_length text begins, digits), within)))

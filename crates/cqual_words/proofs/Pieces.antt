@@ -39,7 +39,8 @@ found Source = refl
 
 -- so two parts of one name are the same
 pub same_part : (a b : Part) → is_part a b ≡ true → a ≡ b
-same_part a b h = same_Some a b (sym (found a) ∙ ap first_named ((bytes_eq-Decides (name_of a) (name_of b)).0 h) ∙ found b)
+same_part a b h =
+    same_Some a b (sym (found a) ∙ ap first_named ((bytes_eq-Decides (name_of a) (name_of b)).0 h) ∙ found b)
 
 pub part_same : (a : Part) → is_part a a ≡ true
 part_same a = (bytes_eq-Decides (name_of a) (name_of a)).1 refl
@@ -107,13 +108,15 @@ all_other other id s t (r ∷ rows) apart = go (bytes_eq r.id other) refl (all_o
     id_apart e = ap (λ x. bytes_eq x id) ((bytes_eq-Decides r.id other).0 e) ∙ apart
 
     past : (c : Bool) → all_of id (with_values other AsWritten s (t ∷ []) rows) ≡ all_of id rows
-        → option_map (λ (x : Row). x.values) (cond c (Some r) (find (is_id id) (with_values other AsWritten s (t ∷ []) rows)))
+        → option_map (λ (x : Row). x.values)
+        (cond c (Some r) (find (is_id id) (with_values other AsWritten s (t ∷ []) rows)))
         ≡ option_map (λ (x : Row). x.values) (cond c (Some r) (find (is_id id) rows))
     past true next = refl
     past false next = next
 
     go : (b : Bool) → bytes_eq r.id other ≡ b → all_of id (with_values other AsWritten s (t ∷ []) rows) ≡ all_of id rows
-        → all_of id (cond b (more_values s (t ∷ []) r ++ rows) (r ∷ with_values other AsWritten s (t ∷ []) rows)) ≡ all_of id (r ∷ rows)
+        → all_of id (cond b (more_values s (t ∷ []) r ++ rows) (r ∷ with_values other AsWritten s (t ∷ []) rows))
+        ≡ all_of id (r ∷ rows)
     go true e next = rw (id_apart e) refl
     go false e next = past (bytes_eq r.id id) next
 
@@ -132,7 +135,8 @@ texts_append a (p ∷ ps) qs = go (is_part (part_of p) a) (texts_append a ps qs)
 
 pub texts_here : (p : Piece) (more : List Piece)
     → texts_of (part_of p) (p ∷ more) ≡ text_of p ∷ texts_of (part_of p) more
-texts_here p more = ap (λ b. cond b (text_of p ∷ texts_of (part_of p) more) (texts_of (part_of p) more)) (part_same (part_of p))
+texts_here p more =
+    ap (λ b. cond b (text_of p ∷ texts_of (part_of p) more) (texts_of (part_of p) more)) (part_same (part_of p))
 
 -- the texts of an id, by those that were there before and those that come
 abbrev pub joined : Option (List Text) → List Text → Option (List Text)
@@ -164,7 +168,9 @@ texts_from a (p ∷ ps) rows = texts_from a ps (with_piece rows p) ∙ go (is_pa
     go : (b : Bool) → (is_part (part_of p) a) ≡ b
         → joined (all_of (name_of a) (with_piece rows p)) (texts_of a ps)
         ≡ joined (all_of (name_of a) rows) (cond b (text_of p ∷ texts_of a ps) (texts_of a ps))
-    go true e = ap (λ o. joined o (texts_of a ps)) (same_texts e) ∙ joined_one (all_of (name_of a) rows) (text_of p) (texts_of a ps)
+    go true e =
+        ap (λ o. joined o (texts_of a ps)) (same_texts e)
+        ∙ joined_one (all_of (name_of a) rows) (text_of p) (texts_of a ps)
     go false e = ap (λ o. joined o (texts_of a ps))
         (all_other (name_of (part_of p)) (name_of a) CommandLine (text_of p) rows e)
 
@@ -242,7 +248,8 @@ again_among (x ∷ y ∷ xs) t ys h = too_many (length (xs ++ t ∷ ys))
 
 texts_at : (ps : List Piece) (p : Piece) (more : List Piece)
     → texts_of (part_of p) (ps ++ p ∷ more) ≡ texts_of (part_of p) ps ++ text_of p ∷ texts_of (part_of p) more
-texts_at ps p more = texts_append (part_of p) ps (p ∷ more) ∙ ap (λ ts. texts_of (part_of p) ps ++ ts) (texts_here p more)
+texts_at ps p more =
+    texts_append (part_of p) ps (p ∷ more) ∙ ap (λ ts. texts_of (part_of p) ps ++ ts) (texts_here p more)
 
 -- so does a text with no meaning
 pub spoilt : (ps : List Piece) (p : Piece) (more : List Piece) → has_meaning (text_of p) ≡ false

@@ -14,8 +14,7 @@ use Rattle.cqual_words.proofs.Rules.{Hand, OfKey, OfSource, all_rules, by_id, ke
 use Rattle.cqual_words.proofs.Rules.{source_fine, used_key, used_source}
 
 -- what waits behind the pieces that clap has used: nothing, a piece that comes with the next flag or word, or an option
--- whose value
--- is to come
+-- whose value is to come
 pub data Pend : Type 0 where
   Free : Pend
   Holds : Hand → Pend
@@ -45,7 +44,8 @@ held_at ps pend = record { rows = rows_at ps; pending = pending_at pend; skip = 
 
 -- the words that are no options all go to the one place for them
 abbrev pub walk_at : Held → Waiting → Bool → Walk
-walk_at h waiting is_trailing = record { held = h; waiting = waiting; position = 1; is_trailing = is_trailing; stopped = None }
+walk_at h waiting is_trailing =
+    record { held = h; waiting = waiting; position = 1; is_trailing = is_trailing; stopped = None }
 
 -- ---- each option and each flag once
 
@@ -71,7 +71,8 @@ once_more ps p once none a once_only = ap is_once (texts_append a ps (p ∷ []))
     go false e = ap is_once (append-nil (texts_of a ps)) ∙ once a once_only
     go true e =
         let same = same_part (part_of p) a e in
-        none_there (texts_of a ps) (text_of p) (ap (λ c. has_any (texts_of c ps)) (sym same) ∙ sym (has_row_is (part_of p) ps)
+        none_there (texts_of a ps) (text_of p) (ap (λ c. has_any (texts_of c ps)) (sym same)
+        ∙ sym (has_row_is (part_of p) ps)
         ∙ none (ap is_option same ∙ once_only))
 
 -- ---- the use of the piece that waits
@@ -90,7 +91,8 @@ pub data Settling (ps : List Piece) (pend : Pend) : Type 0 where
       → Settling ps pend
 
 settle_uses : (ps : List Piece) (a : Part) (texts : List Text)
-    → settle_fault all_rules false (record { rows = rows_at ps; pending = Some (name_of a, texts); skip = 0 }) ≡ use_fault false
+    → settle_fault all_rules false (record { rows = rows_at ps; pending = Some (name_of a, texts); skip = 0 })
+    ≡ use_fault false
     (rule_for a) texts (rows_at ps)
 settle_uses ps a texts = ap (λ o. option_map_or (λ r. use_fault false r texts (rows_at ps)) o []) (by_id a)
 
@@ -104,7 +106,8 @@ wants_fault ps key = settle_uses ps (Valued key) [] ∙ none_faulty key (rows_at
 
 -- a piece that waits is used with those before it
 held_more : (ps : List Piece) (hand : Hand)
-    → used (rule_for (part_of (piece_of hand))) (text_of (piece_of hand) ∷ []) (rows_at ps) ≡ with_piece (rows_at ps) (piece_of hand)
+    → used (rule_for (part_of (piece_of hand))) (text_of (piece_of hand) ∷ []) (rows_at ps)
+    ≡ with_piece (rows_at ps) (piece_of hand)
     → settled all_rules (held_at ps (Holds hand)) ≡ held_at (all_at ps (Holds hand)) Free
 held_more ps hand e = ap (λ rs. record { rows = rs; pending = None; skip = 0 })
     (settled_uses ps (part_of (piece_of hand)) (text_of (piece_of hand) ∷ []) ∙ e ∙ sym (rows_more ps (piece_of hand)))
@@ -127,7 +130,8 @@ settling ps (Holds (OfKey key text)) once = go (has_row (key_name key) (rows_at 
 
 -- the value of an option that waits for it
 pub value_read : (ps : List Piece) (key : Key) (word : Text)
-    → plain_word all_rules (option (key_name key)) word (held_at ps (Wants key)) ≡ (held_at ps (Holds (OfKey key word)), next idle)
+    → plain_word all_rules (option (key_name key)) word (held_at ps (Wants key))
+    ≡ (held_at ps (Holds (OfKey key word)), next idle)
 value_read ps key word =
     ap (λ o. (
       (option_word o (key_name key) word (held_at ps (Wants key))).0,

@@ -22,7 +22,8 @@ use Rattle.cqual_words.proofs.Ends.{asked_is, check_fine, defaults_fine, end_row
 
 -- with no fault the rows say which flags stand and ask the task, and with a fault there is none
 abbrev pub Judged : Kinds → List Row → Option Task → Type 0
-Judged [] rows task = (stands : Flag → Bool) × ((flag : Flag) → one_of (flag_name flag) rows ≡ Some (bool_text (stands flag)))
+Judged [] rows task =
+    (stands : Flag → Bool) × ((flag : Flag) → one_of (flag_name flag) rows ≡ Some (bool_text (stands flag)))
     × (asked_by stands (λ id. first_of id rows) (all_of (codes "source") rows) ≡ task)
 Judged (k ∷ ks) rows task = task ≡ None
 
@@ -34,7 +35,9 @@ abbrev pub end_of : Walk → List Text → Held
 end_of w words = (fold (walked all_rules []) w words).held
 
 abbrev pub Claim : Walk → List Text → Option Task → Type 0
-Claim w words task = Judged (or_else (walk_fault shape [] w words) (end_fault (end_of w words))) (finished all_rules (end_of w words)) task
+Claim w words task =
+    Judged (or_else (walk_fault shape [] w words) (end_fault (end_of w words)))
+    (finished all_rules (end_of w words)) task
 
 -- ---- one word more
 
@@ -43,9 +46,11 @@ goes_on : (w after : Walk) (word : Text) (words : List Text) (task : Option Task
     → Claim after words task → Claim w (word ∷ words) task
 unfolding walk_fault
 goes_on w after word words task fine is claim =
-    subst (λ ks. Judged (or_else (or_else ks (walk_fault shape [] (walked all_rules [] w word) words)) (end_fault (end_of
+    subst (λ ks.
+    Judged (or_else (or_else ks (walk_fault shape [] (walked all_rules [] w word) words)) (end_fault (end_of
     (walked all_rules [] w word) words)))
-    (finished all_rules (end_of (walked all_rules [] w word) words)) task) (sym fine) (subst (λ v. Claim v words task) (sym is) claim)
+    (finished all_rules (end_of (walked all_rules [] w word) words)) task) (sym fine)
+    (subst (λ v. Claim v words task) (sym is) claim)
 
 stops : (w : Walk) (word : Text) (words : List Text) (task : Option Task) (k : ErrorKind)
     → turn_fault shape [] w word ≡ k ∷ []
@@ -53,7 +58,8 @@ stops : (w : Walk) (word : Text) (words : List Text) (task : Option Task) (k : E
     → Claim w (word ∷ words) task
 unfolding walk_fault
 stops w word words task k fault none =
-    subst (λ ks. Judged (or_else (or_else ks (walk_fault shape [] (walked all_rules [] w word) words)) (end_fault (end_of
+    subst (λ ks.
+    Judged (or_else (or_else ks (walk_fault shape [] (walked all_rules [] w word) words)) (end_fault (end_of
     (walked all_rules [] w word) words)))
     (finished all_rules (end_of (walked all_rules [] w word) words)) task) (sym fault) none
 
@@ -92,14 +98,18 @@ or_false true = refl
 or_false false = refl
 
 positional_is : (h : Held) → step_fault shape 1 h value ≡ settle_fault all_rules false h
-positional_is h = ap (λ b. cond b [] (settle_fault all_rules false h)) (and_false (is_pending (rule_for Source) h.pending))
+positional_is h =
+    ap (λ b. cond b [] (settle_fault all_rules false h)) (and_false (is_pending (rule_for Source) h.pending))
 
 source_held : (h : Held) (waiting : Waiting) (t : Bool) (word : Text)
-    → after_step all_rules word (walk_at h waiting t) h value ≡ walk_at (pushed (codes "source") word (settled all_rules h)) positional t
-source_held h waiting t word = ap₂ (λ b u. walk_at (pushed (codes "source") word (cond b h (settled all_rules h))) positional u)
+    → after_step all_rules word (walk_at h waiting t) h value
+    ≡ walk_at (pushed (codes "source") word (settled all_rules h)) positional t
+source_held h waiting t word =
+    ap₂ (λ b u. walk_at (pushed (codes "source") word (cond b h (settled all_rules h))) positional u)
     (and_false (is_pending (rule_for Source) h.pending)) (or_false t)
 
-module _ (ps : List Piece) (pend : Pend) (waiting : Waiting) (t : Bool) (word : Text) (words : List Text) (task : Option Task) where
+module _ (ps : List Piece) (pend : Pend) (waiting : Waiting) (t : Bool) (word : Text) (words : List Text)
+    (task : Option Task) where
   abbrev here : Walk
   here = walk_at (held_at ps pend) waiting t
 
@@ -108,7 +118,8 @@ module _ (ps : List Piece) (pend : Pend) (waiting : Waiting) (t : Bool) (word : 
       × (word_met all_rules [] t waiting 1 word (held_at ps pend) ≡ (held_at ps pend, value))
 
   turn_is : IsSource → turn_fault shape [] here word ≡ settle_fault all_rules false (held_at ps pend)
-  turn_is is = ap₂ (λ ks (m : Held × Step). or_else ks (step_fault shape 1 m.0 m.1)) is.0 is.1 ∙ positional_is (held_at ps pend)
+  turn_is is =
+      ap₂ (λ ks (m : Held × Step). or_else ks (step_fault shape 1 m.0 m.1)) is.0 is.1 ∙ positional_is (held_at ps pend)
 
   walked_is : IsSource → walked all_rules [] here word ≡ after_step all_rules word here (held_at ps pend) value
   unfolding walked
@@ -122,10 +133,12 @@ module _ (ps : List Piece) (pend : Pend) (waiting : Waiting) (t : Bool) (word : 
   -- it is one more source
   pub source_read : IsSource → Settling ps pend → ((key : Key) → pend ≡ Wants key → task ≡ None)
       → (((more : List Piece) → task_in (all_at ps pend ++ more) ≡ None) → task ≡ None)
-      → (OnceEach (all_at ps pend) → Claim (walk_at (held_at (all_at ps pend) (Holds (OfSource word))) positional t) words task)
+      → (OnceEach (all_at ps pend)
+      → Claim (walk_at (held_at (all_at ps pend) (Holds (OfSource word))) positional t) words task)
       → Claim here (word ∷ words) task
   source_read is (Settles fine held once) lacks again claim =
-      goes_on here (walk_at (held_at (all_at ps pend) (Holds (OfSource word))) positional t) word words task (turn_is is ∙ fine)
+      goes_on here (walk_at (held_at (all_at ps pend) (Holds (OfSource word))) positional t) word words task
+      (turn_is is ∙ fine)
       (walked_is is ∙ source_held (held_at ps pend) waiting t word
       ∙ ap (λ h. walk_at (pushed (codes "source") word h) positional t) held) (claim once)
   source_read is (Repeats fault none) lacks again claim = source_lacks is kind.ArgumentConflict fault (again none)
@@ -138,7 +151,8 @@ module _ (ps : List Piece) (pend : Pend) (waiting : Waiting) (t : Bool) (task : 
       → Claim (walk_at (held_at ps pend) waiting t) [] task
   unfolding walk_fault
   end_faulty k fault none = subst (λ ks. Judged (or_else ks
-      (or_else (defaults_fault (settled all_rules (held_at ps pend)).rows all_rules) (check_fault shape (finished all_rules
+      (or_else (defaults_fault (settled all_rules (held_at ps pend)).rows all_rules)
+      (check_fault shape (finished all_rules
       (held_at ps pend)) false)))
       (finished all_rules (held_at ps pend)) task) (sym fault) none
 
@@ -152,14 +166,17 @@ module _ (ps : List Piece) (pend : Pend) (waiting : Waiting) (t : Bool) (task : 
       let rows : finished all_rules (held_at ps pend) ≡ end_rows (rows_at (all_at ps pend)) =
       ap (λ (h : Held). fold with_default h.rows all_rules) held in
       let faults_are : end_fault (held_at ps pend) ≡ [] =
-      ap (λ ks. or_else ks (or_else (defaults_fault (settled all_rules (held_at ps pend)).rows all_rules) (check_fault shape
+      ap (λ ks.
+      or_else ks (or_else (defaults_fault (settled all_rules (held_at ps pend)).rows all_rules) (check_fault shape
       (finished all_rules (held_at ps pend)) false))) fine
-      ∙ ap (λ ks. or_else ks (check_fault shape (finished all_rules (held_at ps pend)) false)) (defaults_fine (settled all_rules
+      ∙ ap (λ ks. or_else ks (check_fault shape (finished all_rules (held_at ps pend)) false))
+      (defaults_fine (settled all_rules
       (held_at ps pend)).rows)
       ∙ check_fine (finished all_rules (held_at ps pend)) in
       let judged : Judged [] (end_rows (rows_at (all_at ps pend))) task =
       (stands_among (all_at ps pend), flag_reads (all_at ps pend), asked_is (all_at ps pend) once ∙ is) in
-      subst (λ ks. Judged ks (finished all_rules (held_at ps pend)) task) (sym faults_are) (subst (λ rs. Judged [] rs task)
+      subst (λ ks. Judged ks (finished all_rules (held_at ps pend)) task) (sym faults_are)
+      (subst (λ rs. Judged [] rs task)
       (sym rows) judged)
 
 -- ---- behind `--`
@@ -175,12 +192,14 @@ not_wanting pend still key e = absurd (true≢false (sym (ap is_wanting e) ∙ s
 pub trails : (words : List Text) (ps : List Piece) (pend : Pend) (waiting : Waiting) → is_wanting pend ≡ false
     → OnceEach ps
     → Claim (walk_at (held_at ps pend) waiting true) words (task_in (all_at ps pend ++ map Plain words))
-trails [] ps pend waiting still once = end_read ps pend waiting true (task_in (all_at ps pend ++ [])) (settling ps pend once)
+trails [] ps pend waiting still once =
+    end_read ps pend waiting true (task_in (all_at ps pend ++ [])) (settling ps pend once)
     (λ key e. not_wanting pend still key e) (λ none. none []) (ap task_in (sym (append-nil (all_at ps pend))))
 trails (word ∷ words) ps pend waiting still once = source_read ps pend waiting true word words
     (task_in (all_at ps pend ++ Plain word ∷ map Plain words)) (refl, refl) (settling ps pend once)
     (λ key e. not_wanting pend still key e) (λ none. none (Plain word ∷ map Plain words))
-    (λ once_all. subst (λ qs. Claim (walk_at (held_at (all_at ps pend) (Holds (OfSource word))) positional true) words (task_in qs))
+    (λ once_all.
+    subst (λ qs. Claim (walk_at (held_at (all_at ps pend) (Holds (OfSource word))) positional true) words (task_in qs))
     (append_assoc (all_at ps pend) (Plain word ∷ []) (map Plain words))
     (trails words (all_at ps pend) (Holds (OfSource word)) positional refl once_all))
 

@@ -41,7 +41,8 @@ long_faulty (Some (Valued key)) (Some t) h k e =
 long_faulty (Some (Valued key)) None h k e = (k, e)
 
 value_fault : (key : Key) (t : Text) (h : Held)
-    → long_fault all_rules false (Some (rule_for (Valued key))) (Some t) h ≡ react_fault all_rules false (rule_for (Valued key)) (t ∷ []) h
+    → long_fault all_rules false (Some (rule_for (Valued key))) (Some t) h
+    ≡ react_fault all_rules false (rule_for (Valued key)) (t ∷ []) h
 value_fault key t h = refl
 
 opens_fault : (key : Key) (h : Held)
@@ -49,7 +50,8 @@ opens_fault : (key : Key) (h : Held)
 opens_fault key h = refl
 
 value_met : (key : Key) (t : Text) (h : Held)
-    → long_met all_rules (Some (rule_for (Valued key))) (Some t) h ≡ (reacted all_rules (rule_for (Valued key)) (t ∷ []) h, done)
+    → long_met all_rules (Some (rule_for (Valued key))) (Some t) h
+    ≡ (reacted all_rules (rule_for (Valued key)) (t ∷ []) h, done)
 value_met key t h = refl
 
 opens_met : (key : Key) (h : Held) → long_met all_rules (Some (rule_for (Valued key))) None h
@@ -83,9 +85,11 @@ opened _ = None
 
 abbrev Walks : List Text → Type 0
 Walks words = (ps : List Piece) (pend : Pend) → OnceEach ps
-    → Claim (walk_at (held_at ps pend) (waits_for pend) false) words (task_in (all_at ps pend ++ pieces_from (opened pend) words))
+    → Claim (walk_at (held_at ps pend) (waits_for pend) false) words
+    (task_in (all_at ps pend ++ pieces_from (opened pend) words))
 
-module _ (ps : List Piece) (pend : Pend) (waiting : Waiting) (word : Text) (words : List Text) (name : Text) (v : Option Text)
+module _ (ps : List Piece) (pend : Pend) (waiting : Waiting) (word : Text) (words : List Text) (name : Text)
+    (v : Option Text)
     (part : bytes_eq word hyphens ≡ false) (is_long : long_of word ≡ Some (name, v)) where
   abbrev h : Held
   h = held_at ps pend
@@ -95,7 +99,8 @@ module _ (ps : List Piece) (pend : Pend) (waiting : Waiting) (word : Text) (word
 
   fault_as : (o : Option Part) (w : Option Text) → named name ≡ o → v ≡ w
       → faults waiting word h ≡ long_fault all_rules false (option_map rule_for o) w h
-  fault_as o w e f = long_faults waiting word name v h part is_long ∙ ap₂ (λ r u. long_fault all_rules false r u h) (by_name name
+  fault_as o w e f =
+      long_faults waiting word name v h part is_long ∙ ap₂ (λ r u. long_fault all_rules false r u h) (by_name name
       ∙ ap (option_map rule_for) e) f
 
   abbrev flagged : Held × Outcome → Held × Step
@@ -103,7 +108,8 @@ module _ (ps : List Piece) (pend : Pend) (waiting : Waiting) (word : Text) (word
 
   met_as : (o : Option Part) (w : Option Text) → named name ≡ o → v ≡ w
       → meets waiting 1 word h ≡ flagged (long_met all_rules (option_map rule_for o) w h)
-  met_as o w e f = long_met_by waiting 1 word name v h part is_long ∙ ap₂ (λ r u. flagged (long_met all_rules r u h)) (by_name name
+  met_as o w e f =
+      long_met_by waiting 1 word name v h part is_long ∙ ap₂ (λ r u. flagged (long_met all_rules r u h)) (by_name name
       ∙ ap (option_map rule_for) e) f
 
   pub long_lacks : (task : Option Task) (k : ErrorKind) → settle_fault all_rules false h ≡ k ∷ [] → task ≡ None
@@ -115,7 +121,8 @@ module _ (ps : List Piece) (pend : Pend) (waiting : Waiting) (word : Text) (word
   abbrev task_as : Option Part → Option Text → Option Task
   task_as o w = task_in (all ++ with_word (option_word word o w) words (λ key. pieces_from key words))
 
-  module _ (bad : has_meaning word ≡ false) (fine : settle_fault all_rules false h ≡ []) (held : settled all_rules h ≡ held_at all Free)
+  module _ (bad : has_meaning word ≡ false) (fine : settle_fault all_rules false h ≡ [])
+      (held : settled all_rules h ≡ held_at all Free)
       (once : OnceEach all) (next_words : Walks words) where
     uses_fault : (a : Rule) (values : List Text)
         → react_fault all_rules false a values h ≡ use_fault false a values (rows_at all)
@@ -137,10 +144,12 @@ module _ (ps : List Piece) (pend : Pend) (waiting : Waiting) (word : Text) (word
         → has_row (flag_name flag) (rows_at all) ≡ b
         → Claim (walk_at h waiting false) (word ∷ words) (task_as (Some (Flagged flag)) None)
     flag_case flag e f true r = refuses h waiting word words _ kind.ArgumentConflict
-        (fault_as (Some (Flagged flag)) None e f ∙ uses_fault (rule_for (Flagged flag)) [] ∙ flag_again flag (rows_at all) r)
+        (fault_as (Some (Flagged flag)) None e f ∙ uses_fault (rule_for (Flagged flag)) []
+        ∙ flag_again flag (rows_at all) r)
         (twice all (Set flag) (pieces_from None words) refl r)
     flag_case flag e f false r = reads h waiting word words _ (held_at (all ++ Set flag ∷ []) Free) idle
-        (fault_as (Some (Flagged flag)) None e f ∙ uses_fault (rule_for (Flagged flag)) [] ∙ flag_fine flag (rows_at all) r)
+        (fault_as (Some (Flagged flag)) None e f ∙ uses_fault (rule_for (Flagged flag)) []
+        ∙ flag_fine flag (rows_at all) r)
         (met_as (Some (Flagged flag)) None e f
         ∙ uses_held (rule_for (Flagged flag)) [] (Set flag) (used_flag flag (rows_at all) r)) (goes_with (Set flag) r)
 
@@ -160,14 +169,16 @@ module _ (ps : List Piece) (pend : Pend) (waiting : Waiting) (word : Text) (word
 
     pub long_settled : (o : Option Part) (w : Option Text) → named name ≡ o → v ≡ w
         → Claim (walk_at h waiting false) (word ∷ words) (task_as o w)
-    long_settled None w e f = refuses h waiting word words _ kind.UnknownArgument (fault_as None w e f) (spoilt all (Plain word)
+    long_settled None w e f =
+        refuses h waiting word words _ kind.UnknownArgument (fault_as None w e f) (spoilt all (Plain word)
         (pieces_from None words) bad)
     long_settled (Some Source) w e f = never_source name e
     long_settled (Some (Flagged flag)) (Some t) e f = refuses h waiting word words _ kind.TooManyValues
         (fault_as (Some (Flagged flag)) (Some t) e f) (spoilt all (Plain word) (pieces_from None words) bad)
     long_settled (Some (Flagged flag)) None e f = flag_case flag e f (has_row (flag_name flag) (rows_at all)) refl
     long_settled (Some (Valued key)) (Some t) e f = value_case key t e f (has_row (key_name key) (rows_at all)) refl
-    long_settled (Some (Valued key)) None e f = reads h waiting word words _ (held_at all (Wants key)) (option (key_name key))
+    long_settled (Some (Valued key)) None e f =
+        reads h waiting word words _ (held_at all (Wants key)) (option (key_name key))
         (fault_as (Some (Valued key)) None e f ∙ opens_fault key h ∙ fine)
         (met_as (Some (Valued key)) None e f ∙ ap flagged (opens_met key h)
         ∙ ap (λ (g : Held). (record g { pending = Some (key_name key, []) }, next (option (key_name key)))) held)
@@ -210,39 +221,49 @@ module _ (words : List Text) (next_words : Walks words) (word : Text) (ps : List
   plainly fine met = source_read ps pend awaits false word words (task_in (after (Whole (Plain word))))
       (fine, met ∙ plain_still pend word (held_at ps pend) still) (settling ps pend once)
       (λ key e. not_wanting pend still key e) (λ none. none (Plain word ∷ pieces_from None words))
-      (λ once_all. subst (λ qs. Claim (walk_at (held_at (all_at ps pend) (Holds (OfSource word))) positional false) words (task_in qs))
+      (λ once_all. subst
+      (λ qs. Claim (walk_at (held_at (all_at ps pend) (Holds (OfSource word))) positional false) words (task_in qs))
       (append_assoc (all_at ps pend) (Plain word ∷ []) (pieces_from None words))
       (next_words (all_at ps pend) (Holds (OfSource word)) once_all))
 
   by_short : has_meaning word ≡ false → ReadsShort awaits word (held_at ps pend) → Here (Whole (Plain word))
-  by_short bad (Refuses fault) = refuses (held_at ps pend) awaits word words _ kind.UnknownArgument fault (spoilt (all_at ps pend)
+  by_short bad (Refuses fault) =
+      refuses (held_at ps pend) awaits word words _ kind.UnknownArgument fault (spoilt (all_at ps pend)
       (Plain word) (pieces_from None words) bad)
   by_short bad (Passes fine met) = plainly fine (met 1)
 
-  by_long : (name : Text) (v : Option Text) (part : bytes_eq word hyphens ≡ false) (long : long_of word ≡ Some (name, v))
+  by_long : (name : Text) (v : Option Text) (part : bytes_eq word hyphens ≡ false)
+      (long : long_of word ≡ Some (name, v))
       → has_meaning word ≡ false
       → Settling ps pend → Here (option_word word (named name) v)
   by_long name v part long bad (Settles fine held once_all) =
       long_settled ps pend awaits word words name v part long bad fine held once_all next_words (named name) v refl refl
-  by_long name v part long bad (Repeats fault none) = long_lacks ps pend awaits word words name v part long _ kind.ArgumentConflict fault
+  by_long name v part long bad (Repeats fault none) =
+      long_lacks ps pend awaits word words name v part long _ kind.ArgumentConflict fault
       (none _)
   by_long name v part long bad (Lacks key wants fault) = not_wanting pend still key wants
 
   by_look : Looks word → Here (word_of word)
   by_look (Dashes d w bad) = subst Here (sym w)
-      (ends (held_at ps pend) awaits word words _ (dashes_fine awaits word (held_at ps pend) d) (dashes_met awaits 1 word (held_at ps pend) d)
+      (ends (held_at ps pend) awaits word words _ (dashes_fine awaits word (held_at ps pend) d)
+      (dashes_met awaits 1 word (held_at ps pend) d)
       (trails words ps pend awaits still once))
   by_look (Long name v d long w bad) = subst Here (sym w) (by_long name v d long bad (settling ps pend once))
-  by_look (Short b more d long short w bad) = subst Here (sym w) (by_short bad (short_read awaits word (held_at ps pend) b more d long short))
+  by_look (Short b more d long short w bad) =
+      subst Here (sym w) (by_short bad (short_read awaits word (held_at ps pend) b more d long short))
   by_look (Other d long short w) = subst Here (sym w)
-      (plainly (other_fine awaits word (held_at ps pend) d long short) (other_met awaits 1 word (held_at ps pend) d long short))
+      (plainly (other_fine awaits word (held_at ps pend) d long short)
+      (other_met awaits 1 word (held_at ps pend) d long short))
 
-  pub step : Claim (walk_at (held_at ps pend) awaits false) (word ∷ words) (task_in (all_at ps pend ++ pieces_from None (word ∷ words)))
-  step = subst (λ qs. Claim (walk_at (held_at ps pend) awaits false) (word ∷ words) (task_in (all_at ps pend ++ qs))) (sym
+  pub step : Claim (walk_at (held_at ps pend) awaits false) (word ∷ words)
+      (task_in (all_at ps pend ++ pieces_from None (word ∷ words)))
+  step =
+      subst (λ qs. Claim (walk_at (held_at ps pend) awaits false) (word ∷ words) (task_in (all_at ps pend ++ qs))) (sym
       (pieces_next word words)) (by_look (looks word))
 
 -- where an option waits for its value
-module _ (words : List Text) (next_words : Walks words) (word : Text) (ps : List Piece) (key : Key) (once : OnceEach ps) where
+module _ (words : List Text) (next_words : Walks words) (word : Text) (ps : List Piece) (key : Key)
+    (once : OnceEach ps) where
   abbrev held : Held
   held = held_at ps (Wants key)
 
@@ -256,8 +277,10 @@ module _ (words : List Text) (next_words : Walks words) (word : Text) (ps : List
   There = Claim (walk_at held waiting false) (word ∷ words) task
 
   as_value : faults waiting word held ≡ [] → meets waiting 1 word held ≡ plain_word all_rules waiting word held → There
-  as_value fine met = reads held waiting word words task (held_at ps (Holds (OfKey key word))) idle fine (met ∙ value_read ps key word)
-      (subst (λ qs. Claim (walk_at (held_at ps (Holds (OfKey key word))) idle false) words (task_in qs)) (append_assoc ps
+  as_value fine met =
+      reads held waiting word words task (held_at ps (Holds (OfKey key word))) idle fine (met ∙ value_read ps key word)
+      (subst (λ qs. Claim (walk_at (held_at ps (Holds (OfKey key word))) idle false) words (task_in qs))
+      (append_assoc ps
       (Value key word ∷ []) (pieces_from None words)) (next_words ps (Holds (OfKey key word)) once))
 
   spoils : has_meaning word ≡ false → task ≡ None
@@ -272,12 +295,16 @@ module _ (words : List Text) (next_words : Walks words) (word : Text) (ps : List
       (dashes_met waiting 1 word held d) (trail_lacks words ps key waiting task fault (spoils bad))
   value_look fault (Long name v d long w bad) = long_lacks ps
       (Wants key) waiting word words name v d long task kind.InvalidValue fault (spoils bad)
-  value_look fault (Short b more d long short w bad) = value_short bad (short_read waiting word held b more d long short)
+  value_look fault (Short b more d long short w bad) =
+      value_short bad (short_read waiting word held b more d long short)
   value_look fault (Other d long short w) = as_value (other_fine waiting word held d long short)
       (other_met waiting 1 word held d long short)
 
-  pub value_step : Claim (walk_at held waiting false) (word ∷ words) (task_in (ps ++ pieces_from (Some key) (word ∷ words)))
-  value_step = subst (λ qs. Claim (walk_at held waiting false) (word ∷ words) (task_in (ps ++ qs))) (sym (pieces_value key word words))
+  pub value_step : Claim (walk_at held waiting false) (word ∷ words)
+      (task_in (ps ++ pieces_from (Some key) (word ∷ words)))
+  value_step =
+      subst (λ qs. Claim (walk_at held waiting false) (word ∷ words) (task_in (ps ++ qs)))
+      (sym (pieces_value key word words))
       (value_look (wants_fault ps key) (looks word))
 
 -- ---- all words
@@ -286,7 +313,8 @@ pub walks : (words : List Text) → Walks words
 unfolding pieces_from
 walks [] ps Free once = end_read ps Free idle false _ (settling ps Free once) (λ key e. not_wanting Free refl key e)
     (λ none. none []) (ap task_in (sym (append-nil ps)))
-walks [] ps (Holds hand) once = end_read ps (Holds hand) (waits_for (Holds hand)) false _ (settling ps (Holds hand) once)
+walks [] ps (Holds hand) once =
+    end_read ps (Holds hand) (waits_for (Holds hand)) false _ (settling ps (Holds hand) once)
     (λ key e. not_wanting (Holds hand) refl key e)
     (λ none. none []) (ap task_in (sym (append-nil (ps ++ piece_of hand ∷ []))))
 walks [] ps (Wants key) once = end_faulty ps (Wants key) (option (key_name key)) false _ kind.InvalidValue

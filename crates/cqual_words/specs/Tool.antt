@@ -31,7 +31,8 @@ rule_of_part Source = source_rule
 
 -- the parser without rules: the words have no program's name, and `--help` and `--version` are no options of its own
 abbrev pub bare : App
-bare = on_top (λ s. record s { no_binary_name = true; disable_help_flag = true; disable_version_flag = true }) (new_app (codes "cqual"))
+bare = on_top (λ s. record s { no_binary_name = true; disable_help_flag = true; disable_version_flag = true })
+    (new_app (codes "cqual"))
 
 -- the parser with a rule for each part
 abbrev pub tool : App
@@ -72,4 +73,5 @@ raw_of found id = option_map raw_values (matched_of found id)
 
 -- what the matches ask, by the entry of the words that are no options
 abbrev pub asked_by : (Flag → Bool) → (Text → Option Text) → Option (List Text) → Option Task
-asked_by stands first plain = option_and_then (λ sources. asked_with stands first sources) (sources_of (plain_texts plain))
+asked_by stands first plain =
+    option_and_then (λ sources. asked_with stands first sources) (sources_of (plain_texts plain))

@@ -17,10 +17,8 @@ pub record FileNames : Type 0 where
   pub wide : Bool
 
 -- What is asked of a program: its report, its report with the annotated source behind it, what the report of a file
--- comes to, its
--- certificate, what the certificate of a file comes to, what reaches the declared names of one spelling and what they
--- reach, or its
--- signatures as a library.
+-- comes to, its certificate, what the certificate of a file comes to, what reaches the declared names of one spelling
+-- and what they reach, or its signatures as a library.
 pub data Question : Type 0 where
   Infer : Question
   Annotate : Question
@@ -138,8 +136,7 @@ abbrev pub value_in : Text → Option Text
 value_in text = if list_any is_equals text then Some (after_first is_equals text) else None
 
 -- the word of an option, by its name and the value that is attached; a word that names no option, and a flag with a
--- value, is
--- read as a plain word, which begins with a hyphen and so has no meaning
+-- value, is read as a plain word, which begins with a hyphen and so has no meaning
 abbrev pub option_word : Text → Option Part → Option Text → Word
 option_word word (Some (Flagged flag)) None = Whole (Set flag)
 option_word word (Some (Flagged flag)) (Some value) = Whole (Plain word)
@@ -233,8 +230,7 @@ abbrev pub IsSourceCount : ℕ → Type 0
 IsSourceCount count = (1 ≤ count) × (count ≤ 256)
 
 -- What is asked of a program, by what is there of a report, of a certificate and of a name, and by whether the flags
--- `--annotate`,
--- `--certify` and `--signatures` stand: at most one of them.
+-- `--annotate`, `--certify` and `--signatures` stand: at most one of them.
 abbrev pub question_of : Option Text → Option Text → Option Text → Bool → Bool → Bool → Option Question
 question_of None None None false false false = Some Infer
 question_of None None None true false false = Some Annotate
@@ -286,8 +282,8 @@ task_with None p None question sources = None
 -- what the parts ask together, by the value of each option, by which flags stand, and by the sources
 abbrev pub task_of_parts : (Key → Option Text) → (Flag → Bool) → List Text → Option Task
 task_of_parts value stands sources = task_with (value Lattice) (value Prelude) (value Number)
-    (question_of (value Report) (value Certificate) (value Name) (stands Annotation) (stands Certification) (stands Signing))
-    sources
+    (question_of (value Report) (value Certificate) (value Name) (stands Annotation) (stands Certification)
+    (stands Signing)) sources
 
 -- the value of an option among the pieces, where it stands once
 abbrev pub value_among : List Piece → Key → Option Text

@@ -16,4 +16,6 @@ items_pushed known next = map-append item_tree known (next ∷ [])
 pub items_are : (items : List (Listed InitDeclr))
     → init_declrs_from (map item_tree items) ≡ lists.init_declrs_from items
 items_are [] = refl
-items_are (x ∷ xs) = ap (more_init_declrs x.attrs.items (declr_of x.item.declr.value) x.item.label x.item.attrs.items (lists.some_init_from x.item.init)) (items_are xs)
+items_are (x ∷ xs) =
+    ap (more_init_declrs x.attrs.items (declr_of x.item.declr.value) x.item.label x.item.attrs.items
+    (lists.some_init_from x.item.init)) (items_are xs)

@@ -15,7 +15,8 @@ either_way true rest = refl
 either_way false rest = refl
 
 typedef_first : (w : SpecWord) (ws : SpecWords)
-    → has_typedef_word (storage_words (more_words w ws)) ≡ (if has_typedef_word (storage_of w) then true else has_typedef_word (storage_words ws))
+    → has_typedef_word (storage_words (more_words w ws))
+    ≡ (if has_typedef_word (storage_of w) then true else has_typedef_word (storage_words ws))
 typedef_first (storage w) ws = either_way (is_typedef_word w.keyword) (has_typedef_word (storage_words ws))
 typedef_first w ws = refl
 
@@ -25,6 +26,8 @@ has_typedef_in words = has_typedef_word (storage_words (spec_words_from words))
 -- whether `typedef` stands from a word on
 pub typedef_from : (words : List rust_spec_word.SpecWord) (n : ℕ) (word : rust_spec_word.SpecWord) → n < length words
     → word ≡ get_or words n word →
-    has_typedef_in (drop n words) ≡ (if has_typedef_word (storage_of (spec_word_of word)) then true else has_typedef_in (drop (suc n) words))
+    has_typedef_in (drop n words)
+    ≡ (if has_typedef_word (storage_of (spec_word_of word)) then true else has_typedef_in (drop (suc n) words))
 typedef_from words n word within is =
-    ap has_typedef_in (drop-cons words n word within) ∙ rw (← is) (typedef_first (spec_word_of word) (spec_words_from (drop (suc n) words)))
+    ap has_typedef_in (drop-cons words n word within)
+    ∙ rw (← is) (typedef_first (spec_word_of word) (spec_words_from (drop (suc n) words)))

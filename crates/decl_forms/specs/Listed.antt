@@ -18,16 +18,28 @@ use Rattle.c_reading.specs.Tokens.{is_semicolon}
 use Rattle.c_reading.specs.Stating.{next_init_declr, init_declr_with}
 use Rattle.c_reading.specs.Knot.{knot}
 use Rattle.reader_base.specs.declared.fault.ReadError.{ReadError}
-use Rattle.reader_base.specs.declared.place.Place.{Place}
+use Rattle.reader_base.specs.declared.cursor.Cursor.{Cursor}
 use Rattle.reader_base.specs.Gives.{Reads}
 
 -- a declarator of a declaration, as it stands in the list
 abbrev pub item_tree : Listed InitDeclr → DeclrItem
-item_tree x = record { before = x.attrs.items; declr = declr_of x.item.declr.value; label = x.item.label; attrs = x.item.attrs.items; init = some_init_from x.item.init }
+item_tree x = record {
+  before = x.attrs.items;
+  declr = declr_of x.item.declr.value;
+  label = x.item.label;
+  attrs = x.item.attrs.items;
+  init = some_init_from x.item.init;
+}
 
 -- a declarator of a declaration, as it is read
 abbrev pub sized_item : SizedInitDeclr → DeclrItem
-sized_item x = record { before = x.before.items; declr = declr_of x.declr.value; label = x.label; attrs = x.attrs.items; init = some_init_from x.init }
+sized_item x = record {
+  before = x.before.items;
+  declr = declr_of x.declr.value;
+  label = x.label;
+  attrs = x.attrs.items;
+  init = some_init_from x.init;
+}
 
 -- the declarators of a declaration so far
 abbrev pub listing : SizedInitDeclrs → CommaList DeclrItem ⊥
@@ -43,7 +55,8 @@ declrs_turn depth kind room known s ts = comma_turn (next_init_declr (knot depth
 
 -- declarators behind the words, the first without attributes
 abbrev pub declrs_at : ℕ → Kind → ℕ → Reader (CommaList DeclrItem ⊥)
-declrs_at depth kind room s ts = listed (init_declr_with (knot depth) [] kind room) (next_init_declr (knot depth) kind room) s ts
+declrs_at depth kind room s ts =
+    listed (init_declr_with (knot depth) [] kind room) (next_init_declr (knot depth) kind room) s ts
 
 -- declarators behind the first of a declaration of values, and its end
 abbrev pub declaration_on : ℕ → List ℕ → trees.SpecWords → DeclrItem → ℕ → Reader trees.Declaration
@@ -53,17 +66,17 @@ declaration_on depth exts words first room s ts =
     ends (trees.declaration exts words (init_declrs_from ds.tree.items) semi.tree) semi.scopes semi.rest
 
 -- the initialiser of a declarator, if any, is read as the reader of lists gives it
-abbrev pub ReadsSomeInit : Place → Place → Result SizedSomeInit ReadError → Reader trees.SomeInit → Type 0
+abbrev pub ReadsSomeInit : Cursor → Cursor → Result SizedSomeInit ReadError → Reader trees.SomeInit → Type 0
 ReadsSomeInit before after result reader = Reads (λ x. some_init_from x.init) before after result reader
 
 -- a declarator of a declaration is read so
-abbrev pub ReadsItem : Place → Place → Result SizedInitDeclr ReadError → Reader DeclrItem → Type 0
+abbrev pub ReadsItem : Cursor → Cursor → Result SizedInitDeclr ReadError → Reader DeclrItem → Type 0
 ReadsItem before after result reader = Reads sized_item before after result reader
 
 -- the declarators of a declaration are read so
-abbrev pub ReadsListing : Place → Place → Result SizedInitDeclrs ReadError → Reader (CommaList DeclrItem ⊥) → Type 0
+abbrev pub ReadsListing : Cursor → Cursor → Result SizedInitDeclrs ReadError → Reader (CommaList DeclrItem ⊥) → Type 0
 ReadsListing before after result reader = Reads listing before after result reader
 
 -- a declaration is read so
-abbrev pub ReadsDeclaration : Place → Place → Result SizedDeclaration ReadError → Reader trees.Declaration → Type 0
+abbrev pub ReadsDeclaration : Cursor → Cursor → Result SizedDeclaration ReadError → Reader trees.Declaration → Type 0
 ReadsDeclaration before after result reader = Reads (λ x. declaration_of x.tree.value) before after result reader

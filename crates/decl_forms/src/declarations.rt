@@ -14,7 +14,7 @@ use c_nodes::{SizedDeclaration, SizedInitDeclr, SizedInitDeclrs, SizedSpecs};
 use c_reading::Role;
 use qual_base::TokenId;
 use reader_base::{
-    Answer, Ask, Place, ReadError, is_semicolon, kind_at, room_above, semicolon, specs_here,
+    Answer, Ask, Cursor, ReadError, is_semicolon, kind_at, room_above, semicolon, specs_here,
     specs_inside, take_one,
 };
 use typedef_scope::Kind;
@@ -25,18 +25,18 @@ fn declrs<'a, F>(
     lent: &F,
     kind: Kind,
     room: u16,
-    place: &mut Place<'a>,
+    cursor: &mut Cursor<'a>,
     depth: u32,
 ) -> Result<SizedInitDeclrs, ReadError>
 where
-    F: Fn(Ask, &mut Place<'a>) -> Result<Answer, ReadError>,
+    F: Fn(Ask, &mut Cursor<'a>) -> Result<Answer, ReadError>,
     requires { Lends F.Fn lent.now depth }
-    ensures { ReadsListing place.old place.new result (declrs_at depth kind room) }
+    ensures { ReadsListing cursor.old cursor.new result (declrs_at depth kind room) }
 {
-    let before = Vec::new(place.alloc);
-    let first = init_declr(lent, before, kind, room, place, depth)?;
-    let known = one_declr(place.alloc, first)?;
-    more_declrs(lent, known, kind, room, place, depth)
+    let before = Vec::new(cursor.alloc);
+    let first = init_declr(lent, before, kind, room, cursor, depth)?;
+    let known = one_declr(cursor.alloc, first)?;
+    more_declrs(lent, known, kind, room, cursor, depth)
 }
 
 /// `(, Attr* InitDeclr)* ;`, behind the words and the first declarator, which declare a value.
@@ -47,26 +47,26 @@ pub fn declaration_on<'a, F>(
     words: SizedSpecs,
     first: SizedInitDeclr,
     room: u16,
-    place: &mut Place<'a>,
+    cursor: &mut Cursor<'a>,
     depth: u32,
 ) -> Result<SizedDeclaration, ReadError>
 where
-    F: Fn(Ask, &mut Place<'a>) -> Result<Answer, ReadError>,
+    F: Fn(Ask, &mut Cursor<'a>) -> Result<Answer, ReadError>,
     requires { Lends F.Fn lent.now depth }
-    ensures { ReadsDeclaration place.old place.new result
+    ensures { ReadsDeclaration cursor.old cursor.new result
         (declaration_on depth exts.items (sized_specs words) (sized_item first) room) }
 {
-    let known = one_declr(place.alloc, first)?;
+    let known = one_declr(cursor.alloc, first)?;
     let declrs = more_declrs(
         lent,
         known,
         Kind::Value,
         room.saturating_sub(1),
-        place,
+        cursor,
         depth,
     )?;
-    let semi = semicolon(place)?;
-    Ok(decl_nodes::declaration(place.alloc, exts, words, declrs, semi)?)
+    let semi = semicolon(cursor)?;
+    Ok(decl_nodes::declaration(cursor.alloc, exts, words, declrs, semi)?)
 }
 
 /// `[InitDeclr (, Attr* InitDeclr)*] ;`, or `AutoDeclr ;`, behind the words.
@@ -76,29 +76,29 @@ pub fn declaration_behind<'a, F>(
     exts: Vec<TokenId>,
     words: SizedSpecs,
     room: u16,
-    place: &mut Place<'a>,
+    cursor: &mut Cursor<'a>,
     depth: u32,
 ) -> Result<SizedDeclaration, ReadError>
 where
-    F: Fn(Ask, &mut Place<'a>) -> Result<Answer, ReadError>,
+    F: Fn(Ask, &mut Cursor<'a>) -> Result<Answer, ReadError>,
     requires { Lends F.Fn lent.now depth }
-    ensures { ReadsDeclaration place.old place.new result
+    ensures { ReadsDeclaration cursor.old cursor.new result
         (declaration_behind (knot depth) exts.items (sized_specs words) room) }
 {
     if has_auto(words.words.as_slice()) {
-        return auto_behind(lent, exts, words, room, place, depth);
+        return auto_behind(lent, exts, words, room, cursor, depth);
     }
-    if is_semicolon(kind_at(place.rest)) {
-        room_above(words.height, room, place)?;
-        let semi = take_one(place)?;
-        let none = SizedInitDeclrs::new(place.alloc);
-        return Ok(decl_nodes::declaration(place.alloc, exts, words, none, semi)?);
+    if is_semicolon(kind_at(cursor.rest)) {
+        room_above(words.height, room, cursor)?;
+        let semi = take_one(cursor)?;
+        let none = SizedInitDeclrs::new(cursor.alloc);
+        return Ok(decl_nodes::declaration(cursor.alloc, exts, words, none, semi)?);
     }
     let kind = declared_kind(words.words.as_slice());
     let room = room.saturating_sub(1);
-    let declrs = declrs(lent, kind, room, place, depth)?;
-    let semi = semicolon(place)?;
-    Ok(decl_nodes::declaration(place.alloc, exts, words, declrs, semi)?)
+    let declrs = declrs(lent, kind, room, cursor, depth)?;
+    let semi = semicolon(cursor)?;
+    Ok(decl_nodes::declaration(cursor.alloc, exts, words, declrs, semi)?)
 }
 
 /// A declaration behind `__extension__`, as often as it stands.
@@ -107,17 +107,17 @@ pub fn declaration<'a, F>(
     lent: &F,
     exts: Vec<TokenId>,
     room: u16,
-    place: &mut Place<'a>,
+    cursor: &mut Cursor<'a>,
     depth: u32,
 ) -> Result<SizedDeclaration, ReadError>
 where
-    F: Fn(Ask, &mut Place<'a>) -> Result<Answer, ReadError>,
+    F: Fn(Ask, &mut Cursor<'a>) -> Result<Answer, ReadError>,
     requires { Lends F.Fn lent.now depth }
-    ensures { ReadsDeclaration place.old place.new result
+    ensures { ReadsDeclaration cursor.old cursor.new result
         (declaration_with (knot depth) exts.items room) }
 {
-    let words = specs_here(lent, Role::Declaring, room, place, depth)?;
-    declaration_behind(lent, exts, words, room, place, depth)
+    let words = specs_here(lent, Role::Declaring, room, cursor, depth)?;
+    declaration_behind(lent, exts, words, room, cursor, depth)
 }
 
 /// A declaration behind words that were read already.
@@ -126,13 +126,13 @@ pub fn declaration_from<'a, F>(
     lent: &F,
     known: SizedSpecs,
     room: u16,
-    place: &mut Place<'a>,
+    cursor: &mut Cursor<'a>,
     depth: u32,
 ) -> Result<SizedDeclaration, ReadError>
 where
-    F: Fn(Ask, &mut Place<'a>) -> Result<Answer, ReadError>,
+    F: Fn(Ask, &mut Cursor<'a>) -> Result<Answer, ReadError>,
     requires { Lends F.Fn lent.now depth }
-    ensures { ReadsDeclaration place.old place.new result
+    ensures { ReadsDeclaration cursor.old cursor.new result
         (declaration_from (knot depth) (sized_specs known) room) }
 {
     let words = specs_inside(
@@ -140,8 +140,8 @@ where
         Role::Declaring,
         known,
         room.saturating_sub(1),
-        place,
+        cursor,
         depth,
     )?;
-    declaration_behind(lent, Vec::new(place.alloc), words, room, place, depth)
+    declaration_behind(lent, Vec::new(cursor.alloc), words, room, cursor, depth)
 }

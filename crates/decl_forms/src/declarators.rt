@@ -17,7 +17,8 @@ use c_syntax::Attr;
 use decl_nodes::{no_init, some_init};
 use qual_base::NoMemory;
 use reader_base::{
-    Answer, Ask, Place, ReadError, attrs, is_comma, is_equal, kind_at, label, named_declr, take_one,
+    Answer, Ask, Cursor, ReadError, attrs, is_comma, is_equal, kind_at, label, named_declr,
+    take_one,
 };
 use std::alloc::Global;
 use typedef_scope::Kind;
@@ -27,19 +28,19 @@ use typedef_scope::Kind;
 pub fn some_init_here<'a, F>(
     lent: &F,
     room: u16,
-    place: &mut Place<'a>,
+    cursor: &mut Cursor<'a>,
     depth: u32,
 ) -> Result<SizedSomeInit, ReadError>
 where
-    F: Fn(Ask, &mut Place<'a>) -> Result<Answer, ReadError>,
+    F: Fn(Ask, &mut Cursor<'a>) -> Result<Answer, ReadError>,
     requires { Lends F.Fn lent.now depth }
-    ensures { ReadsSomeInit place.old place.new result (some_init_with (knot depth) room) }
+    ensures { ReadsSomeInit cursor.old cursor.new result (some_init_with (knot depth) room) }
 {
-    if !is_equal(kind_at(place.rest)) {
+    if !is_equal(kind_at(cursor.rest)) {
         return Ok(no_init());
     }
-    let equal = take_one(place)?;
-    let init = init(lent, room.saturating_sub(1), place, depth)?;
+    let equal = take_one(cursor)?;
+    let init = init(lent, room.saturating_sub(1), cursor, depth)?;
     Ok(some_init(equal, init))
 }
 
@@ -50,18 +51,18 @@ pub fn declr_behind<'a, F>(
     before: Vec<Attr>,
     declr: PresentDeclr,
     room: u16,
-    place: &mut Place<'a>,
+    cursor: &mut Cursor<'a>,
     depth: u32,
 ) -> Result<SizedInitDeclr, ReadError>
 where
-    F: Fn(Ask, &mut Place<'a>) -> Result<Answer, ReadError>,
+    F: Fn(Ask, &mut Cursor<'a>) -> Result<Answer, ReadError>,
     requires { Lends F.Fn lent.now depth }
-    ensures { ReadsItem place.old place.new result
+    ensures { ReadsItem cursor.old cursor.new result
         (declr_behind (knot depth) before.items (declr_of declr.declr.value) room) }
 {
-    let label = label(place)?;
-    let attrs = attrs(room, place)?;
-    let init = some_init_here(lent, room, place, depth)?;
+    let label = label(cursor)?;
+    let attrs = attrs(room, cursor)?;
+    let init = some_init_here(lent, room, cursor, depth)?;
     Ok(decl_nodes::init_declr(before, declr, label, attrs, init))
 }
 
@@ -72,18 +73,18 @@ pub(crate) fn init_declr<'a, F>(
     before: Vec<Attr>,
     kind: Kind,
     room: u16,
-    place: &mut Place<'a>,
+    cursor: &mut Cursor<'a>,
     depth: u32,
 ) -> Result<SizedInitDeclr, ReadError>
 where
-    F: Fn(Ask, &mut Place<'a>) -> Result<Answer, ReadError>,
+    F: Fn(Ask, &mut Cursor<'a>) -> Result<Answer, ReadError>,
     requires { Lends F.Fn lent.now depth }
-    ensures { ReadsItem place.old place.new result
+    ensures { ReadsItem cursor.old cursor.new result
         (init_declr_with (knot depth) before.items kind room) }
 {
-    let declr = named_declr(lent, Some(kind), room.saturating_sub(1), place, depth)?;
-    place.scopes.release(kind)?;
-    declr_behind(lent, before, declr, room, place, depth)
+    let declr = named_declr(lent, Some(kind), room.saturating_sub(1), cursor, depth)?;
+    cursor.scopes.release(kind)?;
+    declr_behind(lent, before, declr, room, cursor, depth)
 }
 
 /// Each turn over declarators takes a comma.
@@ -101,24 +102,24 @@ fn declr_turn<'a, F>(
     known: &mut SizedInitDeclrs,
     kind: Kind,
     room: u16,
-    place: &mut Place<'a>,
+    cursor: &mut Cursor<'a>,
     depth: u32,
 ) -> Result<bool, ReadError>
 where
-    F: Fn(Ask, &mut Place<'a>) -> Result<Answer, ReadError>,
+    F: Fn(Ask, &mut Cursor<'a>) -> Result<Answer, ReadError>,
     requires { Lends F.Fn lent.now depth }
-    ensures { Turns (listing known.old) (listing known.new) place.old place.new result
+    ensures { Turns (listing known.old) (listing known.new) cursor.old cursor.new result
         (declrs_turn depth kind room) }
 {
-    let [first, rest @ ..] = place.rest else {
+    let [first, rest @ ..] = cursor.rest else {
         return Ok(false);
     };
     if !is_comma(first.kind) {
         return Ok(false);
     }
-    place.rest = rest;
-    let before = attrs(room, place)?;
-    let next = init_declr(lent, before, kind, room, place, depth)?;
+    cursor.rest = rest;
+    let before = attrs(room, cursor)?;
+    let next = init_declr(lent, before, kind, room, cursor, depth)?;
     known.push(next)?;
     Ok(true)
 }
@@ -138,17 +139,17 @@ pub(crate) fn more_declrs<'a, F>(
     first: SizedInitDeclrs,
     kind: Kind,
     room: u16,
-    place: &mut Place<'a>,
+    cursor: &mut Cursor<'a>,
     depth: u32,
 ) -> Result<SizedInitDeclrs, ReadError>
 where
-    F: Fn(Ask, &mut Place<'a>) -> Result<Answer, ReadError>,
+    F: Fn(Ask, &mut Cursor<'a>) -> Result<Answer, ReadError>,
     requires { Lends F.Fn lent.now depth }
-    ensures { ReadsListing place.old place.new result
+    ensures { ReadsListing cursor.old cursor.new result
         (run (declrs_turn depth kind room) (listing first)) }
 {
     declrs_step(kind, room, depth);
     let mut known = first;
-    while declr_turn(lent, &mut known, kind, room, place, depth)? {}
+    while declr_turn(lent, &mut known, kind, room, cursor, depth)? {}
     Ok(known)
 }

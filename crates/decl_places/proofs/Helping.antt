@@ -11,8 +11,8 @@ use Rattle.c_reading.proofs.Forms.{Falls, Shrinks}
 use Rattle.c_reading.proofs.Rows.{row_turn_shrinks}
 use Rattle.c_words.specs.declared.kinds.TokenKind.TheVariants as kinds
 use Rattle.c_syntax.specs.declared.parts.Identifier.{Identifier}
-use Rattle.std.specs.Prelude.{nat_le, ◌&&◌}
-use Rattle.c_reading.specs.declared.kinds.Fault.TheVariants.{TooDeep}
+use Rattle.std.specs.Prelude.{nat_le}
+use Rattle.c_reading.specs.declared.kinds.FaultKind.TheVariants.{TooDeep}
 use Rattle.c_reading.specs.Reading.{Read, refuses}
 use Rattle.c_reading.specs.Tokens.{spelled_name, identifier_of, tag_at}
 use Rattle.reading_steps.specs.Keeping.{Kept}
@@ -59,7 +59,9 @@ pub repeated_room : {T : Type 0} (begins : TokenKind → Bool) (least room : ℕ
     → (s : HeldScopes) (ts : List Lexeme) (x : Found (List T)) →
     repeated begins (λ s ts. fits least room ts (read s ts)) s ts ≡ done x → length x.rest < length ts → least ≤ room
 unfolding repeated
-repeated_room {T} begins least room read shrinks s ts x e less = by_test (begins (kind_at ts)) (sym (run_is (repeated_turn begins item) (row_turn_shrinks begins item item_shrinks) [] s ts) ∙ e)
+repeated_room {T} begins least room read shrinks s ts x e less =
+    by_test (begins (kind_at ts))
+    (sym (run_is (repeated_turn begins item) (row_turn_shrinks begins item item_shrinks) [] s ts) ∙ e)
   where
     item : Reader T
     item s ts = fits least room ts (read s ts)
@@ -68,37 +70,44 @@ repeated_room {T} begins least room read shrinks s ts x e less = by_test (begins
     item_shrinks s ts x e = shrinks s ts x (fits_ok least room ts e).1
 
     by_test : (b : Bool)
-        → after (if b then Some (and_then (item s ts) (λ x. ends ([] ++ x.tree ∷ []) x.scopes x.rest)) else None) [] s ts (run (repeated_turn begins item)) ≡ done x
+        → after (if b then Some (and_then (item s ts) (λ x. ends ([] ++ x.tree ∷ []) x.scopes x.rest)) else None)
+        [] s ts (run (repeated_turn begins item)) ≡ done x
         → least ≤ room
     by_test true e = let a = bind_ok e in let b = bind_ok a.1 in (fits_ok least room ts b.1).0
     by_test false e = let same : length ts ≡ length x.rest = left_is e in absurd (omega (arith, same, less))
 
 module _ (keep : Bool) where
   -- a part behind one that is good
-  pub behind_good : {A B : Type 0} (a : Reader A) (f : A → Reader B) (middle stops : TokenKind → Bool) (s : HeldScopes) (ts : List Lexeme)
+  pub behind_good : {A B : Type 0} (a : Reader A) (f : A → Reader B) (middle stops : TokenKind → Bool) (s : HeldScopes)
+      (ts : List Lexeme)
       → Good keep a middle s ts → ((x : A) → Law keep (f x) middle stops) →
       Passes keep f middle stops → Good keep (behind a f) stops s ts
   behind_good a f middle stops s ts g lf passes =
-      bind_good keep a f middle stops s ts (λ tree scopes gives at. (lf tree).ready scopes at) g (λ x is. (lf x.tree).good x.scopes x.rest) (passes_at keep f middle stops (a s ts) passes)
+      bind_good keep a f middle stops s ts (λ tree scopes gives at. (lf tree).ready scopes at) g
+      (λ x is. (lf x.tree).good x.scopes x.rest) (passes_at keep f middle stops (a s ts) passes)
 
   -- nothing stands behind a part that never answers
-  pub never_behind : {A B : Type 0} (a : Reader A) (f : A → Reader B) (middle stops : TokenKind → Bool) (some_kind : TokenKind)
+  pub never_behind : {A B : Type 0} (a : Reader A) (f : A → Reader B) (middle stops : TokenKind → Bool)
+      (some_kind : TokenKind)
       → middle some_kind ≡ true → (s : HeldScopes) (ts : List Lexeme) →
       ((k : List Lexeme) (x : Found A) → a s k ≡ done x → ⊥) → Good keep a middle s ts
       → Good keep (behind a f) stops s ts
   never_behind a f middle stops some_kind goes s ts never g =
       bind_good keep a f middle stops s ts
-      (λ tree scopes gives at. let h = gives.reads (record { kind = some_kind; at = 0 } ∷ []) goes in absurd (never h.0 (found tree scopes (record { kind = some_kind; at = 0 } ∷ [])) h.1))
-      g (λ x is. absurd (never ts x is)) (inl (λ x y is e. absurd (never ts x is)))
+      (λ tree scopes gives at. let h = gives.reads (record { kind = some_kind; at = 0 } ∷ []) goes in
+      absurd (never h.0 (found tree scopes (record { kind = some_kind; at = 0 } ∷ [])) h.1)) g
+      (λ x is. absurd (never ts x is)) (inl (λ x y is e. absurd (never ts x is)))
 
   -- a node that begins with a token that is known
   pub node_good : {B : Type 0} (least room : ℕ) (f : ℕ → Reader B) (stops : TokenKind → Bool)
       → (least ≤ room → (x : ℕ) → Law keep (f x) any stops) → (s : HeldScopes) (ts : List Lexeme) →
       is_end (kind_at ts) ≡ false → Good keep (λ s ts. fits least room ts (behind take_one f s ts)) stops s ts
-  node_good least room f stops lf s ts known = fits_good keep least room (behind take_one f) stops s ts (λ fit. take_behind keep f stops (lf fit) s ts known)
+  node_good least room f stops lf s ts known =
+      fits_good keep least room (behind take_one f) stops s ts (λ fit. take_behind keep f stops (lf fit) s ts known)
 
   -- from nothing, where more is known of the first part
-  pub ready_behind : {A B : Type 0} (a : Reader A) (f : A → Reader B) (front middle stops : TokenKind → Bool) (s : HeldScopes) (at : ℕ) (r : Ready keep a front middle s at) →
+  pub ready_behind : {A B : Type 0} (a : Reader A) (f : A → Reader B) (front middle stops : TokenKind → Bool)
+      (s : HeldScopes) (at : ℕ) (r : Ready keep a front middle s at) →
       Ready keep (f r.tree) middle stops r.scopes (at + length r.more) → Ready keep (behind a f) front stops s at
   unfolding and_then
   ready_behind a f front middle stops s at r q = record {
@@ -106,13 +115,21 @@ module _ (keep : Bool) where
     tree = q.tree;
     scopes = q.scopes;
     keeps = kept_trans keep s r.scopes q.scopes r.keeps q.keeps;
-    begins = λ k h. rw (numbered_append at r.more q.more, append_assoc (numbered_from at r.more) (numbered_from (at + length r.more) q.more) k) (r.begins (numbered_from (at + length r.more) q.more ++ k) (q.begins k h));
+    begins = λ k h. rw (
+      numbered_append at r.more q.more,
+      append_assoc (numbered_from at r.more) (numbered_from (at + length r.more) q.more) k,
+    ) (r.begins (numbered_from (at + length r.more) q.more ++ k) (q.begins k h));
     reads = λ k h.
-        rw (numbered_append at r.more q.more, append_assoc (numbered_from at r.more) (numbered_from (at + length r.more) q.more) k, r.reads (numbered_from (at + length r.more) q.more ++ k) (q.begins k h)) (q.reads k h);
+        rw (
+          numbered_append at r.more q.more,
+          append_assoc (numbered_from at r.more) (numbered_from (at + length r.more) q.more) k,
+          r.reads (numbered_from (at + length r.more) q.more ++ k) (q.begins k h),
+        ) (q.reads k h);
   }
 
   -- what an answer keeps of the scopes
-  pub answer_keeps : {A : Type 0} (read : Reader A) (stops : TokenKind → Bool) (s : HeldScopes) (ts : List Lexeme) (x : Found A)
+  pub answer_keeps : {A : Type 0} (read : Reader A) (stops : TokenKind → Bool) (s : HeldScopes)
+      (ts : List Lexeme) (x : Found A)
       → Good keep read stops s ts → read s ts ≡ done x → Kept keep s x.scopes
   answer_keeps {A} read stops s ts x g is = by_read (read s ts) g is
     where
@@ -121,7 +138,8 @@ module _ (keep : Bool) where
       by_read (Err e) o is = absurd cc
 
 -- A tag or none, and what stands behind it: where no tag stands, something is taken there.
-module _ (keep : Bool) {B : Type 0} (part : Option Identifier → Reader B) (stops : TokenKind → Bool) (falls : (tag : Option Identifier) → Falls (part tag)) (takes : Shrinks (part None)) where
+module _ (keep : Bool) {B : Type 0} (part : Option Identifier → Reader B) (stops : TokenKind → Bool)
+    (falls : (tag : Option Identifier) → Falls (part tag)) (takes : Shrinks (part None)) where
   pub tagged_shrinks : Shrinks (behind tag_at part)
   tagged_shrinks s ts x e = by_tokens ts e
     where
@@ -129,7 +147,8 @@ module _ (keep : Bool) {B : Type 0} (part : Option Identifier → Reader B) (sto
           → behind tag_at part s (t ∷ us) ≡ done x → length x.rest < length (t ∷ us)
       by_name t us None is e = let a = bind_ok e in
           let same : done (found None s (t ∷ us)) ≡ done a.0 = sym (tag_none keep s (t ∷ us) is) ∙ a.1 in
-          subst (λ (y : Found (Option Identifier)). part y.tree y.scopes y.rest ≡ done x → length x.rest < length (t ∷ us)) (ok_is same) (λ e. takes s (t ∷ us) x e) a.2
+          subst (λ (y : Found (Option Identifier)). part y.tree y.scopes y.rest ≡ done x
+          → length x.rest < length (t ∷ us)) (ok_is same) (λ e. takes s (t ∷ us) x e) a.2
       by_name t us (Some name) is e = let a = bind_ok e in
           let now : tag_at s (t ∷ us) ≡ done (found (Some (identifier_of t.at name)) s us) = rw is refl in
           let same : done (found (Some (identifier_of t.at name)) s us) ≡ done a.0 = sym now ∙ a.1 in
@@ -139,10 +158,12 @@ module _ (keep : Bool) {B : Type 0} (part : Option Identifier → Reader B) (sto
       by_tokens : (ts : List Lexeme) → behind tag_at part s ts ≡ done x → length x.rest < length ts
       by_tokens [] e = let a = bind_ok e in
           let same : done (found None s []) ≡ done a.0 = a.1 in
-          subst (λ (y : Found (Option Identifier)). part y.tree y.scopes y.rest ≡ done x → length x.rest < 0) (ok_is same) (λ e. takes s [] x e) a.2
+          subst (λ (y : Found (Option Identifier)). part y.tree y.scopes y.rest ≡ done x
+          → length x.rest < 0) (ok_is same) (λ e. takes s [] x e) a.2
       by_tokens (t ∷ us) e = by_name t us (spelled_name t.kind) refl e
 
-  module _ (good : (tag : Option Identifier) (s : HeldScopes) (ts : List Lexeme) → Good keep (part tag) stops s ts) (ready : (tag : Identifier) (s : HeldScopes) (at : ℕ) → Ready keep (part (Some tag)) any stops s at) where
+  module _ (good : (tag : Option Identifier) (s : HeldScopes) (ts : List Lexeme) → Good keep (part tag) stops s ts)
+      (ready : (tag : Identifier) (s : HeldScopes) (at : ℕ) → Ready keep (part (Some tag)) any stops s at) where
     pub tagged_good : (s : HeldScopes) (ts : List Lexeme) → Good keep (behind tag_at part) stops s ts
     unfolding and_then
     tagged_good s ts = by_tokens ts (spelled_name (kind_at ts)) refl
@@ -153,25 +174,41 @@ module _ (keep : Bool) {B : Type 0} (part : Option Identifier → Reader B) (sto
 
         by_tokens : (ts : List Lexeme) (o : Option ℕ) → spelled_name (kind_at ts) ≡ o
             → Good keep (behind tag_at part) stops s ts
-        by_tokens ts None is = good_as keep (part None) (behind tag_at part) stops s ts (none_is ts is) (inl (λ x e. takes s ts x e)) (good None s ts)
+        by_tokens ts None is =
+            good_as keep (part None) (behind tag_at part) stops s ts (none_is ts is) (inl (λ x e. takes s ts x e))
+            (good None s ts)
         by_tokens [] (Some name) is = absurd cc
         by_tokens (t ∷ ts) (Some name) is =
-            good_as keep (behind take_one named) (behind tag_at part) stops s (t ∷ ts) same (inl (λ x e. take_shrinks named (λ token. falls (Some (identifier_of token name))) s (t ∷ ts) x e))
-            (take_behind keep named stops (λ token. record { good = λ s ts. good (Some (identifier_of token name)) s ts; ready = λ s at. ready (identifier_of token name) s at }) s (t ∷ ts) (name_end t.kind name is))
+            good_as keep (behind take_one named) (behind tag_at part) stops s (t ∷ ts) same
+            (inl (λ x e. take_shrinks named (λ token. falls (Some (identifier_of token name))) s (t ∷ ts) x e))
+            (take_behind keep named stops (λ token. record {
+              good = λ s ts. good (Some (identifier_of token name)) s ts;
+              ready = λ s at. ready (identifier_of token name) s at;
+            }) s (t ∷ ts) (name_end t.kind name is))
           where
             named : ℕ → Reader B
             named token = part (Some (identifier_of token name))
 
             same : (k : List Lexeme) → first_kind k ≡ Some t.kind → behind tag_at part s k ≡ behind take_one named s k
             same [] e = absurd cc
-            same (u ∷ us) e = let is2 : spelled_name u.kind ≡ Some name = (let kinds_same : u.kind ≡ t.kind = cc in ap spelled_name kinds_same ∙ is) in rw is2 refl
+            same (u ∷ us) e =
+                let is2 : spelled_name u.kind ≡ Some name =
+                (let kinds_same : u.kind ≡ t.kind = cc in ap spelled_name kinds_same ∙ is) in
+                rw is2 refl
 
     -- a name is a tag
     pub tagged_ready : (s : HeldScopes) (at : ℕ) → Ready keep (behind tag_at part) is_name_kind stops s at
     unfolding and_then
     tagged_ready s at =
         let r = ready (identifier_of at 0) s (suc at) in
-        record { more = kinds.Name 0 ∷ r.more; tree = r.tree; scopes = r.scopes; keeps = r.keeps; begins = λ k h. refl; reads = λ k h. r.reads k h }
+        record {
+          more = kinds.Name 0 ∷ r.more;
+          tree = r.tree;
+          scopes = r.scopes;
+          keeps = r.keeps;
+          begins = λ k h. refl;
+          reads = λ k h. r.reads k h;
+        }
 
     pub tagged_law : Law keep (behind tag_at part) is_name_kind stops
     tagged_law = record { good = tagged_good; ready = tagged_ready }
@@ -216,7 +253,3 @@ fewer_tokens b c p rest k m same parts fewer less =
     let three = length_behind p k in
     let four = length_behind c k in
     omega (arith, one, two, three, four, fewer, less)
-
-pub and_none : (b : Bool) → (b && false) ≡ false
-and_none true = refl
-and_none false = refl

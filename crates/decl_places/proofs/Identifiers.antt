@@ -4,7 +4,7 @@ use Rattle.c_words.specs.declared.kinds.TokenKind.{TokenKind}
 use Rattle.c_words.specs.declared.kinds.TokenKind.TheVariants as kinds
 use Rattle.c_tree.specs.declared.lexeme.Lexeme.{Lexeme}
 use Rattle.c_units.specs.HeldScopes.{HeldScopes}
-use Rattle.c_reading.specs.declared.kinds.Fault.TheVariants.{Unexpected}
+use Rattle.c_reading.specs.declared.kinds.FaultKind.TheVariants.{Unexpected}
 use Rattle.c_reading.specs.Reading.{ends, kind_at}
 use Rattle.c_reading.specs.Tokens.{spelled_name, identifier_of, name_at}
 use Rattle.c_reading.specs.Declaring.{is_identifier, identifier_at}
@@ -34,5 +34,6 @@ identifier_law keep front named = record {
     by_test : (s : HeldScopes) (ts : List Lexeme) (b : Bool) → is_identifier s (spelled_name (kind_at ts)) ≡ b
         → Good keep identifier_at any s ts
     by_test s ts true is =
-        good_as keep name_at identifier_at any s ts (λ k e. rw (kind_same k ts e, is) refl) (inl (λ x e. identifier_shrinks s ts x (rw is e))) (name_good keep any s ts)
+        good_as keep name_at identifier_at any s ts (λ k e. rw (kind_same k ts e, is) refl)
+        (inl (λ x e. identifier_shrinks s ts x (rw is e))) (name_good keep any s ts)
     by_test s ts false is = refused_here keep identifier_at any s ts Unexpected (λ k e. rw (kind_same k ts e, is) refl)

@@ -1,8 +1,6 @@
 -- Steps that the families share (`Helping`), the table of mixes (`Mixes`), then each family over any readers inside
--- that owe
--- `InnerLaws`: members (`Members`), structs, unions and enumerations (`Bodies`), specifiers (`Specs`), sizes and
--- parameters
--- (`Params`), declarators (`Declr`), and what their readers and that of names of types owe (`Shown`).
+-- that owe `InnerLaws`: members (`Members`), structs, unions and enumerations (`Bodies`), specifiers (`Specs`), sizes
+-- and parameters (`Params`), declarators (`Declr`), and what their readers and that of names of types owe (`Shown`).
 pub mod Helping
 pub mod Mixes
 pub mod Members

@@ -45,7 +45,8 @@ named_is_whole (Some mix) h = by_types mix.types h
 pub named_whole : (ws : SpecWords) (w : SpecWord) → class_of w ≡ classes.Named → goes_on ws (class_of w) ≡ true
     → is_whole_mix (pushed ws w) ≡ true
 named_whole ws w is h =
-    ap whole_in (mix_of_pushed ws w ∙ ap (then_class (mix_of ws)) is) ∙ named_is_whole (mix_of ws) (ap (λ (class : Class). is_some (then_class (mix_of ws) class)) (sym is) ∙ h)
+    ap whole_in (mix_of_pushed ws w ∙ ap (then_class (mix_of ws)) is)
+    ∙ named_is_whole (mix_of ws) (ap (λ (class : Class). is_some (then_class (mix_of ws) class)) (sym is) ∙ h)
 
 -- equal mixes, where there are any, have the same types
 same_types : (mix m : Mix) → Some mix ≡ Some m → m.types ≡ mix.types
@@ -106,7 +107,8 @@ whole_typed ws h = by_typed (is_typed ws) refl
     by_mix None is e h = absurd cc
     by_mix (Some m) is e h =
         let same : m.types ≡ Words bases.Nothing marks.Unmarked = untyped_types ws no_mix m e is in
-        let none : whole_of (Words bases.Nothing marks.Unmarked) ≡ true = subst (λ (types : Types). whole_of types ≡ true) same h in
+        let none : whole_of (Words bases.Nothing marks.Unmarked) ≡ true =
+        subst (λ (types : Types). whole_of types ≡ true) same h in
         absurd cc
 
     by_typed : (b : Bool) → is_typed ws ≡ b → is_typed ws ≡ true
@@ -126,8 +128,18 @@ made_whole ws begins none = by_mix (mix_of ws) refl begins none
   where
     by_types : (mix : Mix) (base : Base) (mark : Mark) → mix_of ws ≡ Some mix → mix.types ≡ Words base mark
         → whole_of (Words base mark) ≡ false → MadeWhole ws
-    by_types mix bases.Nothing marks.Unmarked is types none = record { keyword = keywords.Int; is_int_or_double = inl refl; goes = rw (is, types) refl; whole = rw (is, types) refl }
-    by_types mix bases.Long marks.Complex is types none = record { keyword = keywords.Double; is_int_or_double = inr refl; goes = rw (is, types) refl; whole = rw (is, types) refl }
+    by_types mix bases.Nothing marks.Unmarked is types none = record {
+      keyword = keywords.Int;
+      is_int_or_double = inl refl;
+      goes = rw (is, types) refl;
+      whole = rw (is, types) refl;
+    }
+    by_types mix bases.Long marks.Complex is types none = record {
+      keyword = keywords.Double;
+      is_int_or_double = inr refl;
+      goes = rw (is, types) refl;
+      whole = rw (is, types) refl;
+    }
     by_types mix base mark is types none = absurd cc
 
     by_all : (mix : Mix) (types : Types) → mix_of ws ≡ Some mix → mix.types ≡ types → whole_of types ≡ false
@@ -140,10 +152,6 @@ made_whole ws begins none = by_mix (mix_of ws) refl begins none
     by_mix (Some mix) is begins none = by_all mix mix.types is refl none
 
 -- Heights.
-
-pub specs_high : (ws : SpecWords) → 1 ≤ specs_height ws
-specs_high no_words = omega arith
-specs_high (more_words w ws) = let rest : 1 ≤ specs_height ws = specs_high ws in omega (arith, rest)
 
 pub pushed_low : (ws : SpecWords) (w : SpecWord) (room : ℕ) → specs_height ws ≤ room → spec_word_height w + 1 ≤ room
     → specs_height (pushed ws w) ≤ room
@@ -181,7 +189,8 @@ named_then mix classes.Free h = h
 named_from : (ws : SpecWords) (mix : Option Mix) → IsNamedMix mix → IsNamedMix (mix_from mix ws)
 named_from no_words mix h = h
 named_from (more_words w ws) None h = named_from ws None tt
-named_from (more_words w ws) (Some mix) h = named_from ws (then_class (Some mix) (class_of w)) (named_then mix (class_of w) h)
+named_from (more_words w ws) (Some mix) h =
+    named_from ws (then_class (Some mix) (class_of w)) (named_then mix (class_of w) h)
 
 -- a mix has a named type behind a word that names one, or ends
 named_class : (mix : Option Mix) → IsNamedMix (then_class mix classes.Named)
@@ -204,7 +213,9 @@ auto_mix (more_words w ws) mix h = by_word (is_auto w) refl h (auto_mix ws (then
     by_word : (b : Bool) → is_auto w ≡ b → b || has_auto ws ≡ true
         → (has_auto ws ≡ true → IsNamedMix (mix_from (then_class mix (class_of w)) ws))
         → IsNamedMix (mix_from (then_class mix (class_of w)) ws)
-    by_word true is h later = named_from ws (then_class mix (class_of w)) (subst (λ (class : Class). IsNamedMix (then_class mix class)) (sym (auto_class w is)) (named_class mix))
+    by_word true is h later =
+        named_from ws (then_class mix (class_of w))
+        (subst (λ (class : Class). IsNamedMix (then_class mix class)) (sym (auto_class w is)) (named_class mix))
     by_word false is h later = later h
 
 -- behind words that hold `__auto_type` no base word goes on

@@ -1,6 +1,7 @@
 -- What the readers of declarators and of names of types owe.
 use Rattle.std.proofs.Common.{◌≡◌, ℕ, suc, ◌<◌, ◌≤◌, Bool, true, false, if◌then◌else◌, List, [], length, ◌⊎◌, inl, inr, Option, Some, None, refl, ◌∙◌, ap, subst, arith}
 use Rattle.std.specs.Prelude.{◌-◌, ◌&&◌, ◌||◌}
+use Rattle.qual_base.proofs.Tests.{some_is}
 use Rattle.c_words.specs.declared.kinds.TokenKind.{TokenKind}
 use Rattle.c_words.specs.declared.kinds.TokenKind.TheVariants as kinds
 use Rattle.c_words.specs.declared.kinds.Punct.TheVariants as puncts
@@ -36,9 +37,6 @@ type_specs (kinds.Punct puncts.Comma) h = refl
 type_specs (kinds.Punct puncts.Colon) h = refl
 type_specs kind h = absurd cc
 
-some_is : {A : Type 0} {x y : A} → Some x ≡ Some y → x ≡ y
-some_is e = cc
-
 abbrev There : SomeDeclr → Type 0
 There d = (it : Declr) × (d ≡ some_declr it)
 
@@ -58,7 +56,8 @@ module _ (n : ℕ) (inner : Inner) (places : InnerLaws n inner) (laws : Laws [] 
       let f = bind_ok c.2 in
       subst (λ (x : Found Declared). There x.tree.declr) (ok_is f.2) (_, refl)
 
-  prototype_there : (d : Declared) (opening : ℕ) (lead : List Attr) (room : ℕ) (s : HeldScopes) (ts : List Lexeme) (x : Found Declared)
+  prototype_there : (d : Declared) (opening : ℕ) (lead : List Attr) (room : ℕ) (s : HeldScopes) (ts : List Lexeme)
+      (x : Found Declared)
       → prototype_with inner d opening lead room s ts ≡ done x → There x.tree.declr
   unfolding prototype_with
   prototype_there d opening lead room s ts x e =
@@ -80,12 +79,14 @@ module _ (n : ℕ) (inner : Inner) (places : InnerLaws n inner) (laws : Laws [] 
   list_there true d opening room s ts x e = by_declr d.declr e
     where
       by_declr : (inside : SomeDeclr)
-          → identifiers_of inside (λ inside. identifiers_with inner inside opening s ts) (prototype_with inner d opening [] room s ts) ≡ done x
+          → identifiers_of inside (λ inside. identifiers_with inner inside opening s ts)
+          (prototype_with inner d opening [] room s ts) ≡ done x
           → There x.tree.declr
       by_declr no_declr e = prototype_there d opening [] room s ts x e
       by_declr (some_declr inside) e = identifiers_there inside opening s ts x e
 
-  paren_there : (mode : Mode) (wanted : Option Kind) (flag : Bool) (opening : ℕ) (attrs : List Attr) (room : ℕ) (s : HeldScopes) (ts : List Lexeme) (x : Found Declared) →
+  paren_there : (mode : Mode) (wanted : Option Kind) (flag : Bool) (opening : ℕ) (attrs : List Attr) (room : ℕ)
+      (s : HeldScopes) (ts : List Lexeme) (x : Found Declared) →
       paren_with inner mode wanted flag opening attrs room s ts ≡ done x → There x.tree.declr
   unfolding paren_with
   paren_there mode wanted flag opening attrs room s ts x e =
@@ -98,7 +99,8 @@ module _ (n : ℕ) (inner : Inner) (places : InnerLaws n inner) (laws : Laws [] 
   abbrev Read : ℕ → List Lexeme → Declared → List Lexeme → Type 0
   Read room ts d k = ((length k ≡ length ts) × (d ≡ nothing_yet)) ⊎ ((1 ≤ room) × There d.declr)
 
-  opened_there : (mode : Mode) (wanted : Option Kind) (flag : Bool) (opening : ℕ) (attrs : List Attr) (room : ℕ) (s : HeldScopes) (ts : List Lexeme) (x : Found Declared) →
+  opened_there : (mode : Mode) (wanted : Option Kind) (flag : Bool) (opening : ℕ) (attrs : List Attr) (room : ℕ)
+      (s : HeldScopes) (ts : List Lexeme) (x : Found Declared) →
       opened_by inner mode wanted flag opening attrs room s ts ≡ done x → There x.tree.declr
   unfolding opened_by
   opened_there mode wanted flag opening attrs room s ts x e =
@@ -108,7 +110,8 @@ module _ (n : ℕ) (inner : Inner) (places : InnerLaws n inner) (laws : Laws [] 
       (λ is e. paren_there mode wanted flag opening attrs room s ts x e)
       (λ is e. absurd cc))
 
-  paren_read : (mode : Mode) (wanted : Option Kind) (flag : Bool) (room : ℕ) (s : HeldScopes) (ts : List Lexeme) (x : Found Declared)
+  paren_read : (mode : Mode) (wanted : Option Kind) (flag : Bool) (room : ℕ) (s : HeldScopes) (ts : List Lexeme)
+      (x : Found Declared)
       → some_paren inner mode wanted flag room s ts ≡ done x → (1 ≤ room) × There x.tree.declr
   unfolding named_paren opened_with
   paren_read Named wanted flag room s ts x e =
@@ -130,8 +133,10 @@ module _ (n : ℕ) (inner : Inner) (places : InnerLaws n inner) (laws : Laws [] 
   absent_read : (mode : Mode) (room : ℕ) (s : HeldScopes) (ts : List Lexeme) (x : Found Declared)
       → absent mode s ts ≡ done x → Read room ts x.tree x.rest
   absent_read Named room s ts x e = absurd cc
-  absent_read Abstract room s ts x e = subst (λ (x : Found Declared). Read room ts x.tree x.rest) (ok_is e) (inl (refl, refl))
-  absent_read Either room s ts x e = subst (λ (x : Found Declared). Read room ts x.tree x.rest) (ok_is e) (inl (refl, refl))
+  absent_read Abstract room s ts x e =
+      subst (λ (x : Found Declared). Read room ts x.tree x.rest) (ok_is e) (inl (refl, refl))
+  absent_read Either room s ts x e =
+      subst (λ (x : Found Declared). Read room ts x.tree x.rest) (ok_is e) (inl (refl, refl))
 
   held_read : (name room : ℕ) (held : Option HeldScopes) (s : HeldScopes) (ts : List Lexeme) (x : Found Declared)
       → name_held name room held s ts ≡ done x → Read room ts x.tree x.rest
@@ -141,11 +146,13 @@ module _ (n : ℕ) (inner : Inner) (places : InnerLaws n inner) (laws : Laws [] 
       let a = bind_ok r.1 in
       inr (r.0, subst (λ (x : Found Declared). There x.tree.declr) (ok_is a.2) (_, refl))
 
-  name_read : (mode : Mode) (wanted : Option Kind) (o : Option ℕ) (room : ℕ) (s : HeldScopes) (ts : List Lexeme) (x : Found Declared)
+  name_read : (mode : Mode) (wanted : Option Kind) (o : Option ℕ) (room : ℕ) (s : HeldScopes) (ts : List Lexeme)
+      (x : Found Declared)
       → name_or_none inner mode wanted o room s ts ≡ done x → Read room ts x.tree x.rest
   name_read mode wanted None room s ts x e = absent_read mode room s ts x e
   name_read mode wanted (Some name) room s ts x e =
-      if_ok (takes_name mode) e (λ is e. held_read name room (at_name wanted name s) s ts x e) (λ is e. absent_read mode room s ts x e)
+      if_ok (takes_name mode) e (λ is e. held_read name room (at_name wanted name s) s ts x e)
+      (λ is e. absent_read mode room s ts x e)
 
   base_read : (room : ℕ) (s : HeldScopes) (ts : List Lexeme) (x : Found Declared) → base_named room s ts ≡ done x
       → Read room ts x.tree x.rest
@@ -154,12 +161,14 @@ module _ (n : ℕ) (inner : Inner) (places : InnerLaws n inner) (laws : Laws [] 
       let a = bind_ok r.1 in
       inr (r.0, subst (λ (x : Found Declared). There x.tree.declr) (ok_is a.2) (_, refl))
 
-  core_read : (mode : Mode) (wanted : Option Kind) (flag : Bool) (room : ℕ) (s : HeldScopes) (ts : List Lexeme) (x : Found Declared)
+  core_read : (mode : Mode) (wanted : Option Kind) (flag : Bool) (room : ℕ) (s : HeldScopes) (ts : List Lexeme)
+      (x : Found Declared)
       → core_with inner mode wanted flag room s ts ≡ done x → Read room ts x.tree x.rest
   unfolding core_with
   core_read mode wanted flag room s ts x e =
       if_ok (is_open_paren (kind_at ts)) e (λ is e. inr (paren_read mode wanted flag room s ts x e)) (λ is e.
-      if_ok (names_base s mode wanted (kind_at ts)) e (λ base e. base_read room s ts x e) (λ plain e. name_read mode wanted (spelled_name (kind_at ts)) room s ts x e))
+      if_ok (names_base s mode wanted (kind_at ts)) e (λ base e. base_read room s ts x e)
+      (λ plain e. name_read mode wanted (spelled_name (kind_at ts)) room s ts x e))
 
   room_behind : (flag : Bool) (room : ℕ) (d : Declared) (kind : TokenKind) → d ≡ nothing_yet
       → room_at flag room d kind ≡ room
@@ -170,7 +179,8 @@ module _ (n : ℕ) (inner : Inner) (places : InnerLaws n inner) (laws : Laws [] 
       by_flag true false = refl
       by_flag false paren = refl
 
-  suffix_keeps : (flag : Bool) (room : ℕ) (ts : List Lexeme) (d : Declared) (s : HeldScopes) (k : List Lexeme) (x : Found Declared)
+  suffix_keeps : (flag : Bool) (room : ℕ) (ts : List Lexeme) (d : Declared) (s : HeldScopes) (k : List Lexeme)
+      (x : Found Declared)
       → Read room ts d k → suffix_turn inner flag room d s k ≡ Some (done x) → Read room ts x.tree x.rest
   suffix_keeps flag room ts d s k x h e = inr (by_bracket (is_open_bracket (kind_at k)) e)
     where
@@ -182,17 +192,24 @@ module _ (n : ℕ) (inner : Inner) (places : InnerLaws n inner) (laws : Laws [] 
           by_read (inr some) = some.0
 
       by_paren : (b : Bool)
-          → (if b then Some (fits (suc (some_declr_height d.declr)) (room_at flag room d (kind_at k)) k (params_behind inner flag d (room_at flag room d (kind_at k)) s k)) else None) ≡ Some (done x)
+          → (if b then Some (fits (suc (some_declr_height d.declr)) (room_at flag room d (kind_at k)) k
+          (params_behind inner flag d (room_at flag room d (kind_at k)) s k)) else None) ≡ Some (done x)
           → (1 ≤ room) × There x.tree.declr
       by_paren false e = absurd cc
       by_paren true e =
           let r = fits_ok (suc (some_declr_height d.declr)) (room_at flag room d (kind_at k)) k (some_is e) in
-          let a = bind_ok r.1 in
-          (one (some_declr_height d.declr) r.0, list_there (flag && is_bare d.declr && begins_identifiers a.0.scopes (kind_at a.0.rest)) d a.0.tree (room_at flag room d (kind_at k)) a.0.scopes a.0.rest x a.2)
+          let a = bind_ok r.1 in (
+            one (some_declr_height d.declr) r.0,
+            list_there (flag && is_bare d.declr && begins_identifiers a.0.scopes (kind_at a.0.rest)) d a.0.tree
+                (room_at flag room d (kind_at k)) a.0.scopes a.0.rest x a.2,
+          )
 
       by_bracket : (b : Bool)
-          → (if b then Some (fits (suc (some_declr_height d.declr)) (room_at flag room d (kind_at k)) k (array_with inner d (room_at flag room d (kind_at k)) s k))
-          else if is_open_paren (kind_at k) then Some (fits (suc (some_declr_height d.declr)) (room_at flag room d (kind_at k)) k (params_behind inner flag d (room_at flag room d (kind_at k)) s k)) else None) ≡ Some (done x) →
+          → (if b then Some (fits (suc (some_declr_height d.declr)) (room_at flag room d (kind_at k)) k
+          (array_with inner d (room_at flag room d (kind_at k)) s k))
+          else if is_open_paren (kind_at k) then Some (fits (suc (some_declr_height d.declr))
+          (room_at flag room d (kind_at k)) k (params_behind inner flag d (room_at flag room d (kind_at k)) s k))
+          else None) ≡ Some (done x) →
           (1 ≤ room) × There x.tree.declr
       by_bracket true e =
           let r = fits_ok (suc (some_declr_height d.declr)) (room_at flag room d (kind_at k)) k (some_is e) in
@@ -204,7 +221,8 @@ module _ (n : ℕ) (inner : Inner) (places : InnerLaws n inner) (laws : Laws [] 
   least_high Abstract = omega arith
   least_high Either = omega arith
 
-  declr_read : (mode : Mode) (wanted : Option Kind) (flag : Bool) (room : ℕ) (s : HeldScopes) (ts : List Lexeme) (x : Found Declared)
+  declr_read : (mode : Mode) (wanted : Option Kind) (flag : Bool) (room : ℕ) (s : HeldScopes) (ts : List Lexeme)
+      (x : Found Declared)
       → declr_with inner mode wanted flag room s ts ≡ done x → Read room ts x.tree x.rest
   unfolding declr_with direct_with pointer_with
   declr_read mode wanted flag room s ts x e =
@@ -213,11 +231,15 @@ module _ (n : ℕ) (inner : Inner) (places : InnerLaws n inner) (laws : Laws [] 
       let a = bind_ok r.1 in
       let b = bind_ok a.2 in
       let c = bind_ok b.2 in
-      inr (omega (arith, r.0, least_high mode), subst (λ (x : Found Declared). There x.tree.declr) (ok_is c.2) (_, refl)))
+      inr
+      (omega (arith, r.0, least_high mode), subst (λ (x : Found Declared). There x.tree.declr) (ok_is c.2) (_, refl)))
       (λ is e. let a = bind_ok e in
-      run-keep (suffix_turn inner flag room) (λ d s k. Read room ts d k) (λ d s k x h e. suffix_keeps flag room ts d s k x h e) a.0.tree a.0.scopes a.0.rest x (core_read mode wanted flag room s ts a.0 a.1) a.2)
+      run-keep (suffix_turn inner flag room) (λ d s k. Read room ts d k)
+      (λ d s k x h e. suffix_keeps flag room ts d s k x h e) a.0.tree a.0.scopes a.0.rest x
+      (core_read mode wanted flag room s ts a.0 a.1) a.2)
 
-  declr_taken : (mode : Mode) (wanted : Option Kind) (flag : Bool) (room : ℕ) (s : HeldScopes) (ts : List Lexeme) (x : Found Declared)
+  declr_taken : (mode : Mode) (wanted : Option Kind) (flag : Bool) (room : ℕ) (s : HeldScopes) (ts : List Lexeme)
+      (x : Found Declared)
       → declr_with inner mode wanted flag room s ts ≡ done x → length x.rest < length ts →
       (1 ≤ room) × There x.tree.declr
   declr_taken mode wanted flag room s ts x e less = by_read (declr_read mode wanted flag room s ts x e)
@@ -232,7 +254,8 @@ module _ (n : ℕ) (inner : Inner) (places : InnerLaws n inner) (laws : Laws [] 
     named = λ wanted flag room less one s at. declr_named n inner places laws wanted flag room less one s at;
     absent = λ wanted flag room less s at. declr_absent n inner places laws wanted flag room less Abstract refl s at;
     either = λ wanted flag room less s at. declr_absent n inner places laws wanted flag room less Either refl s at;
-    starred = λ mode wanted flag room absent_is less one s at. declr_starred n inner places laws wanted flag room less mode absent_is one s at;
+    starred = λ mode wanted flag room absent_is less one s at.
+        declr_starred n inner places laws wanted flag room less mode absent_is one s at;
     there = λ mode wanted flag room s ts x e less. (declr_taken mode wanted flag room s ts x e less).1;
     room = λ mode wanted flag room s ts x e less. (declr_taken mode wanted flag room s ts x e less).0;
   }
@@ -243,22 +266,28 @@ module _ (n : ℕ) (inner : Inner) (places : InnerLaws n inner) (laws : Laws [] 
   named_of words d = record { words = words; declr = d.declr }
 
   absent_law : (room : ℕ) → room < suc n → 1 ≤ room → (words : SpecWords)
-      → Law true (behind (inner.declr Abstract None false (room - 1)) (λ d. ends (named_of words d))) stops_specs stops_type
+      → Law true
+      (behind (inner.declr Abstract None false (room - 1)) (λ d. ends (named_of words d))) stops_specs stops_type
   absent_law room less one words =
       mapped_law true (inner.declr Abstract None false (room - 1)) (named_of words) stops_specs stops_type
       (record {
         good = λ s ts. places.declrs.good Abstract None false (room - 1) (omega (arith, less, one)) s ts;
         ready = λ s at.
-            ready_before true (inner.declr Abstract None false (room - 1)) stops_type stops_specs stops_type stops_type s at (λ kind h. h) type_specs (places.declrs.absent None false (room - 1) (omega (arith, less, one)) s at);
+            ready_before true (inner.declr Abstract None false (room - 1)) stops_type stops_specs stops_type stops_type
+            s at (λ kind h. h) type_specs (places.declrs.absent None false (room - 1) (omega (arith, less, one)) s at);
       })
 
   pub type_name_places : TypeNamePlaces (suc n) (type_name_with inner)
   unfolding type_name_with
   type_name_places = record {
     good = λ room less one s ts.
-        behind_good true (inner.specs Naming no_words (room - 1)) (λ words. behind (inner.declr Abstract None false (room - 1)) (λ d. ends (named_of words d))) stops_specs stops_type s ts
-        (places.words.good Naming no_words (room - 1) (omega (arith, less, one)) s ts) (absent_law room less one) (inr type_specs);
+        behind_good true (inner.specs Naming no_words (room - 1)) (λ words. behind
+        (inner.declr Abstract None false (room - 1)) (λ d. ends (named_of words d))) stops_specs stops_type s ts
+        (places.words.good Naming no_words (room - 1) (omega (arith, less, one)) s ts) (absent_law room less one)
+        (inr type_specs);
     ready = λ room less two s at.
-        ready_bind true (inner.specs Naming no_words (room - 1)) (λ words. behind (inner.declr Abstract None false (room - 1)) (λ d. ends (named_of words d))) is_int stops_specs stops_type s at
-        (places.words.begins Naming (room - 1) (omega (arith, less, two)) (omega (arith, two)) s at) (λ words scopes gives at. (absent_law room less (omega (arith, two)) words).ready scopes at);
+        ready_bind true (inner.specs Naming no_words (room - 1)) (λ words. behind
+        (inner.declr Abstract None false (room - 1)) (λ d. ends (named_of words d))) is_int stops_specs stops_type s at
+        (places.words.begins Naming (room - 1) (omega (arith, less, two)) (omega (arith, two)) s at)
+        (λ words scopes gives at. (absent_law room less (omega (arith, two)) words).ready scopes at);
   }

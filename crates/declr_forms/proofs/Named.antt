@@ -13,11 +13,13 @@ named_pointer no_declr token words = refl
 named_pointer (some_declr d) token words = refl
 
 pub named_array : (d : SomeDeclr) (opening : ℕ) (words : List ArrayWord) (size : SomeSize) (closing : ℕ) →
-    by_name d (λ d. trees.array d opening words size closing) (λ d. trees.abs_array d opening words size closing) ≡ with_array d opening words size closing
+    by_name d (λ d. trees.array d opening words size closing) (λ d. trees.abs_array d opening words size closing)
+    ≡ with_array d opening words size closing
 named_array no_declr opening words size closing = refl
 named_array (some_declr d) opening words size closing = refl
 
 pub named_params : (d : SomeDeclr) (opening : ℕ) (ps : Params) (dots : Option Dots) (closing : ℕ) →
-    by_name d (λ d. trees.params d opening ps dots closing) (λ d. trees.abs_params d opening ps dots closing) ≡ with_params d opening ps dots closing
+    by_name d (λ d. trees.params d opening ps dots closing) (λ d. trees.abs_params d opening ps dots closing)
+    ≡ with_params d opening ps dots closing
 named_params no_declr opening ps dots closing = refl
 named_params (some_declr d) opening ps dots closing = refl

@@ -25,7 +25,8 @@ attr_words (attr ∷ attrs) = ap (λ (ws : SpecWords). more_words (attribute att
 
 pub same_params : (ps : List Param) → params_from (map item_of ps) ≡ lists.params_from ps
 same_params [] = refl
-same_params (p ∷ ps) = ap (λ (rest : Params). more_params (item_of p).words (item_of p).declr (item_of p).attrs rest) (same_params ps)
+same_params (p ∷ ps) =
+    ap (λ (rest : Params). more_params (item_of p).words (item_of p).declr (item_of p).attrs rest) (same_params ps)
 
 pub item_pushed : (ps : List Param) (p : Param) → map item_of (ps ++ p ∷ []) ≡ map item_of ps ++ item_of p ∷ []
 item_pushed [] p = refl

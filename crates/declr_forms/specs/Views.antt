@@ -19,11 +19,11 @@ use Rattle.declr_forms.specs.declared.parameters.NextParam.{NextParam}
 use Rattle.declr_forms.specs.declared.parameters.NextParam.TheVariants as nexts
 use Rattle.declr_forms.specs.declared.parameters.ParamList.{ParamList}
 use Rattle.reader_base.specs.declared.fault.ReadError.{ReadError}
-use Rattle.reader_base.specs.declared.place.Place.{Place}
+use Rattle.reader_base.specs.declared.cursor.Cursor.{Cursor}
 use Rattle.reader_base.specs.Gives.{Reads}
 
 -- the size of an array, if any, is read as the reader of lists gives it
-abbrev pub ReadsSize : Place → Place → Result SizedSize ReadError → Reader trees.SomeSize → Type 0
+abbrev pub ReadsSize : Cursor → Cursor → Result SizedSize ReadError → Reader trees.SomeSize → Type 0
 ReadsSize before after result reader = Reads (λ x. some_size_from x.size) before after result reader
 
 -- a parameter, as it is read
@@ -32,7 +32,8 @@ param_of p = record { words = spec_words_from p.words.items; declr = some_declr_
 
 -- a parameter, as it stands in a list
 abbrev pub item_of : Param → ParamItem
-item_of p = record { words = spec_words_from p.specs.words.items; declr = some_declr_from p.declr; attrs = p.attrs.items }
+item_of p =
+    record { words = spec_words_from p.specs.words.items; declr = some_declr_from p.declr; attrs = p.attrs.items }
 
 -- what stands behind a comma in a list of parameters: one more, or `...`
 abbrev pub next_of : NextParam → Next ParamItem trees.Dots
@@ -44,15 +45,15 @@ abbrev pub list_of : ParamList → CommaList ParamItem trees.Dots
 list_of l = record { items = map item_of l.items.items.items; ending = option_map dots_of l.dots }
 
 -- a parameter is read so
-abbrev pub ReadsParam : Place → Place → Result SizedParam ReadError → Reader ParamItem → Type 0
+abbrev pub ReadsParam : Cursor → Cursor → Result SizedParam ReadError → Reader ParamItem → Type 0
 ReadsParam before after result reader = Reads param_of before after result reader
 
 -- what stands behind a comma is read so
-abbrev pub ReadsNext : Place → Place → Result NextParam ReadError → Reader (Next ParamItem trees.Dots) → Type 0
+abbrev pub ReadsNext : Cursor → Cursor → Result NextParam ReadError → Reader (Next ParamItem trees.Dots) → Type 0
 ReadsNext before after result reader = Reads next_of before after result reader
 
 -- a list of parameters is read so
-abbrev pub ReadsParams : Place → Place → Result ParamList ReadError → Reader (CommaList ParamItem trees.Dots) → Type 0
+abbrev pub ReadsParams : Cursor → Cursor → Result ParamList ReadError → Reader (CommaList ParamItem trees.Dots) → Type 0
 ReadsParams before after result reader = Reads list_of before after result reader
 
 -- what stands behind a further comma in a list of parameters
@@ -78,7 +79,8 @@ attrs_behind depth d room s ts = declaring.param_attrs (knot depth) d room s ts
 -- a form behind a declarator, where it has room
 abbrev pub fitting : Bool → ℕ → Declared → (ℕ → Reader Declared) → Reader Declared
 fitting flag room d form s ts =
-    fits (suc (some_declr_height d.declr)) (declaring.room_at flag room d (kind_at ts)) ts (form (declaring.room_at flag room d (kind_at ts)) s ts)
+    fits (suc (some_declr_height d.declr)) (declaring.room_at flag room d (kind_at ts)) ts
+    (form (declaring.room_at flag room d (kind_at ts)) s ts)
 
 -- brackets behind a declarator
 abbrev pub brackets_at : ℕ → Bool → ℕ → Declared → Reader Declared
@@ -90,9 +92,11 @@ params_at depth flag room d s ts = fitting flag room d (declaring.params_behind 
 
 -- a declarator in parentheses, behind these and its attributes
 abbrev pub paren_behind : ℕ → Mode → Option Kind → Bool → ℕ → List Attr → ℕ → Reader Declared
-paren_behind depth mode wanted flag opening attrs room s ts = declaring.paren_with (knot depth) mode wanted flag opening attrs room s ts
+paren_behind depth mode wanted flag opening attrs room s ts =
+    declaring.paren_with (knot depth) mode wanted flag opening attrs room s ts
 
 -- parameters, or a list of identifiers where one begins, behind what may be a function's declarator and the parenthesis
 abbrev pub behind_paren : ℕ → Declared → ℕ → ℕ → Reader Declared
 behind_paren depth d opening room s ts =
-    declaring.list_behind (knot depth) (declaring.is_bare d.declr && declaring.begins_identifiers s (kind_at ts)) d opening room s ts
+    declaring.list_behind (knot depth)
+    (declaring.is_bare d.declr && declaring.begins_identifiers s (kind_at ts)) d opening room s ts

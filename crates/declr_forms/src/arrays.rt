@@ -11,7 +11,7 @@ ghost use Rattle.reader_base.specs.Lent.{Lends, ReadsDeclr, declared_of};
 use c_nodes::{SizedSize, no_size, size_star, size_value, with_array};
 use c_reading::Reach;
 use reader_base::{
-    Answer, Ask, Begun, Declared, Place, ReadError, array_words, close_bracket, expr_inside,
+    Answer, Ask, Begun, Cursor, Declared, ReadError, array_words, close_bracket, expr_inside,
     is_close_bracket, is_star, kind_at, take_one,
 };
 
@@ -20,16 +20,16 @@ use reader_base::{
 fn star_size<'a, F>(
     lent: &F,
     room: u16,
-    place: &mut Place<'a>,
+    cursor: &mut Cursor<'a>,
     depth: u32,
 ) -> Result<SizedSize, ReadError>
 where
-    F: Fn(Ask, &mut Place<'a>) -> Result<Answer, ReadError>,
+    F: Fn(Ask, &mut Cursor<'a>) -> Result<Answer, ReadError>,
     requires { Lends F.Fn lent.now depth }
-    ensures { ReadsSize place.old place.new result (declaring.star_size (knot depth) room) }
+    ensures { ReadsSize cursor.old cursor.new result (declaring.star_size (knot depth) room) }
 {
-    let token = take_one(place)?;
-    if is_close_bracket(kind_at(place.rest)) {
+    let token = take_one(cursor)?;
+    if is_close_bracket(kind_at(cursor.rest)) {
         return Ok(size_star(token));
     }
     let inner = room.saturating_sub(1);
@@ -38,7 +38,7 @@ where
         Reach::Assigned,
         Begun::Star(token),
         inner,
-        place,
+        cursor,
         depth,
     )?;
     Ok(size_value(value))
@@ -49,22 +49,22 @@ where
 fn size<'a, F>(
     lent: &F,
     room: u16,
-    place: &mut Place<'a>,
+    cursor: &mut Cursor<'a>,
     depth: u32,
 ) -> Result<SizedSize, ReadError>
 where
-    F: Fn(Ask, &mut Place<'a>) -> Result<Answer, ReadError>,
+    F: Fn(Ask, &mut Cursor<'a>) -> Result<Answer, ReadError>,
     requires { Lends F.Fn lent.now depth }
-    ensures { ReadsSize place.old place.new result (declaring.size_with (knot depth) room) }
+    ensures { ReadsSize cursor.old cursor.new result (declaring.size_with (knot depth) room) }
 {
-    if is_close_bracket(kind_at(place.rest)) {
+    if is_close_bracket(kind_at(cursor.rest)) {
         return Ok(no_size());
     }
-    if is_star(kind_at(place.rest)) {
-        return star_size(lent, room, place, depth);
+    if is_star(kind_at(cursor.rest)) {
+        return star_size(lent, room, cursor, depth);
     }
     let inner = room.saturating_sub(1);
-    let value = expr_inside(lent, Reach::Assigned, Begun::Nothing, inner, place, depth)?;
+    let value = expr_inside(lent, Reach::Assigned, Begun::Nothing, inner, cursor, depth)?;
     Ok(size_value(value))
 }
 
@@ -74,20 +74,20 @@ pub(crate) fn array<'a, F>(
     lent: &F,
     known: Declared,
     room: u16,
-    place: &mut Place<'a>,
+    cursor: &mut Cursor<'a>,
     depth: u32,
 ) -> Result<Declared, ReadError>
 where
-    F: Fn(Ask, &mut Place<'a>) -> Result<Answer, ReadError>,
+    F: Fn(Ask, &mut Cursor<'a>) -> Result<Answer, ReadError>,
     requires { Lends F.Fn lent.now depth }
-    ensures { ReadsDeclr place.old place.new result
+    ensures { ReadsDeclr cursor.old cursor.new result
         (declaring.array_with (knot depth) (declared_of known) room) }
 {
-    let opening = take_one(place)?;
-    let words = array_words(place)?;
-    let size = size(lent, room, place, depth)?;
-    let closing = close_bracket(place)?;
-    let declr = with_array(place.alloc, known.declr, opening, words, size, closing)?;
+    let opening = take_one(cursor)?;
+    let words = array_words(cursor)?;
+    let size = size(lent, room, cursor, depth)?;
+    let closing = close_bracket(cursor)?;
+    let declr = with_array(cursor.alloc, known.declr, opening, words, size, closing)?;
     Ok(Declared {
         declr,
         closed: known.closed,

@@ -17,28 +17,28 @@ use crate::names::{base_named, name_or_none, names_base, takes_name};
 use crate::prototypes::prototype;
 use crate::suffixes::suffixes;
 use c_nodes::{no_declr, with_paren, with_pointer};
-use c_reading::{Fault, Mode};
+use c_reading::{FaultKind, Mode};
 use c_syntax::Attr;
 use qual_base::TokenId;
 use reader_base::{
-    Answer, Ask, Declared, Place, ReadError, attrs, begins_specs, close_paren, declr_inside,
+    Answer, Ask, Cursor, Declared, ReadError, attrs, begins_specs, close_paren, declr_inside,
     is_close_paren, is_open_bracket, is_open_paren, is_star, kind_at, known_declr, pointer_words,
     refused, room_for, spelled_name, take_one,
 };
 use typedef_scope::Kind;
 
 /// Whether specifiers begin here.
-fn begins_word(place: &Place) -> bool
-    ensures { result ≡ specifying.begins_specs place.now.scopes (kind_at place.now.rest.now) }
+fn begins_word(cursor: &Cursor) -> bool
+    ensures { result ≡ specifying.begins_specs cursor.now.scopes (kind_at cursor.now.rest.now) }
 {
-    begins_specs(&place.scopes, kind_at(place.rest))
+    begins_specs(&cursor.scopes, kind_at(cursor.rest))
 }
 
 /// Whether a name stands here.
-fn is_name(place: &Place) -> bool
-    ensures { result ≡ is_some (tokens.spelled_name (kind_at place.now.rest.now)) }
+fn is_name(cursor: &Cursor) -> bool
+    ensures { result ≡ is_some (tokens.spelled_name (kind_at cursor.now.rest.now)) }
 {
-    match spelled_name(kind_at(place.rest)) {
+    match spelled_name(kind_at(cursor.rest)) {
         Some(_) => true,
         None => false,
     }
@@ -46,24 +46,24 @@ fn is_name(place: &Place) -> bool
 
 /// Whether what stands behind a parenthesis and attributes makes it that of parameters, where no
 /// name must come.
-fn opens_params(attrs: &[Attr], place: &Place) -> bool
-    ensures { result ≡ declaring.opens_params attrs.now place.now.scopes
-        (kind_at place.now.rest.now) }
+fn opens_params(attrs: &[Attr], cursor: &Cursor) -> bool
+    ensures { result ≡ declaring.opens_params attrs.now cursor.now.scopes
+        (kind_at cursor.now.rest.now) }
 {
     match attrs {
-        [] => is_close_paren(kind_at(place.rest)) || begins_word(place),
-        [_, ..] => begins_word(place),
+        [] => is_close_paren(kind_at(cursor.rest)) || begins_word(cursor),
+        [_, ..] => begins_word(cursor),
     }
 }
 
 /// Whether a declarator goes on so, where no name must come.
-fn opens_declr(mode: Mode, place: &Place) -> bool
-    ensures { result ≡ declaring.opens_declr mode (kind_at place.now.rest.now) }
+fn opens_declr(mode: Mode, cursor: &Cursor) -> bool
+    ensures { result ≡ declaring.opens_declr mode (kind_at cursor.now.rest.now) }
 {
-    is_star(kind_at(place.rest))
-        || is_open_paren(kind_at(place.rest))
-        || is_open_bracket(kind_at(place.rest))
-        || (takes_name(mode) && is_name(place))
+    is_star(kind_at(cursor.rest))
+        || is_open_paren(kind_at(cursor.rest))
+        || is_open_bracket(kind_at(cursor.rest))
+        || (takes_name(mode) && is_name(cursor))
 }
 
 /// The least height of a declarator that begins with a star.
@@ -86,20 +86,20 @@ fn paren<'a, F>(
     opening: TokenId,
     attrs: Vec<Attr>,
     room: u16,
-    place: &mut Place<'a>,
+    cursor: &mut Cursor<'a>,
     depth: u32,
 ) -> Result<Declared, ReadError>
 where
-    F: Fn(Ask, &mut Place<'a>) -> Result<Answer, ReadError>,
+    F: Fn(Ask, &mut Cursor<'a>) -> Result<Answer, ReadError>,
     requires { Lends F.Fn lent.now depth }
-    ensures { ReadsDeclr place.old place.new result
+    ensures { ReadsDeclr cursor.old cursor.new result
         (paren_behind depth mode wanted flag opening attrs.items room) }
 {
     let inner = room.saturating_sub(1);
-    let found = declr_inside(lent, mode, wanted, flag, inner, place, depth)?;
-    let known = known_declr(found.declr, place)?;
-    let closing = close_paren(place)?;
-    let declr = with_paren(place.alloc, opening, attrs, known, closing)?;
+    let found = declr_inside(lent, mode, wanted, flag, inner, cursor, depth)?;
+    let known = known_declr(found.declr, cursor)?;
+    let closing = close_paren(cursor)?;
+    let declr = with_paren(cursor.alloc, opening, attrs, known, closing)?;
     Ok(Declared {
         declr,
         closed: found.closed,
@@ -113,18 +113,18 @@ fn named_paren<'a, F>(
     wanted: Option<Kind>,
     flag: bool,
     room: u16,
-    place: &mut Place<'a>,
+    cursor: &mut Cursor<'a>,
     depth: u32,
 ) -> Result<Declared, ReadError>
 where
-    F: Fn(Ask, &mut Place<'a>) -> Result<Answer, ReadError>,
+    F: Fn(Ask, &mut Cursor<'a>) -> Result<Answer, ReadError>,
     requires { Lends F.Fn lent.now depth }
-    ensures { ReadsDeclr place.old place.new result
+    ensures { ReadsDeclr cursor.old cursor.new result
         (declaring.named_paren (knot depth) wanted flag room) }
 {
-    room_for(2, room, place)?;
-    let opening = take_one(place)?;
-    let attrs = attrs(room, place)?;
+    room_for(2, room, cursor)?;
+    let opening = take_one(cursor)?;
+    let attrs = attrs(room, cursor)?;
     paren(
         lent,
         Mode::Named,
@@ -133,7 +133,7 @@ where
         opening,
         attrs,
         room,
-        place,
+        cursor,
         depth,
     )
 }
@@ -148,26 +148,28 @@ fn opened_by<'a, F>(
     opening: TokenId,
     attrs: Vec<Attr>,
     room: u16,
-    place: &mut Place<'a>,
+    cursor: &mut Cursor<'a>,
     depth: u32,
 ) -> Result<Declared, ReadError>
 where
-    F: Fn(Ask, &mut Place<'a>) -> Result<Answer, ReadError>,
+    F: Fn(Ask, &mut Cursor<'a>) -> Result<Answer, ReadError>,
     requires { Lends F.Fn lent.now depth }
-    ensures { ReadsDeclr place.old place.new result
+    ensures { ReadsDeclr cursor.old cursor.new result
         (declaring.opened_by (knot depth) mode wanted flag opening attrs.items room) }
 {
-    if opens_params(attrs.as_slice(), place) {
+    if opens_params(attrs.as_slice(), cursor) {
         let none = Declared {
             declr: no_declr(),
             closed: None,
         };
-        return prototype(lent, none, opening, attrs, room, place, depth);
+        return prototype(lent, none, opening, attrs, room, cursor, depth);
     }
-    if opens_declr(mode, place) {
-        return paren(lent, mode, wanted, flag, opening, attrs, room, place, depth);
+    if opens_declr(mode, cursor) {
+        return paren(
+            lent, mode, wanted, flag, opening, attrs, room, cursor, depth,
+        );
     }
-    Err(refused(Fault::Unexpected, place.rest))
+    Err(refused(FaultKind::Unexpected, cursor.rest))
 }
 
 /// Parameters or a declarator in parentheses, where no name must come.
@@ -178,19 +180,21 @@ fn opened<'a, F>(
     wanted: Option<Kind>,
     flag: bool,
     room: u16,
-    place: &mut Place<'a>,
+    cursor: &mut Cursor<'a>,
     depth: u32,
 ) -> Result<Declared, ReadError>
 where
-    F: Fn(Ask, &mut Place<'a>) -> Result<Answer, ReadError>,
+    F: Fn(Ask, &mut Cursor<'a>) -> Result<Answer, ReadError>,
     requires { Lends F.Fn lent.now depth }
-    ensures { ReadsDeclr place.old place.new result
+    ensures { ReadsDeclr cursor.old cursor.new result
         (declaring.opened_with (knot depth) mode wanted flag room) }
 {
-    room_for(1, room, place)?;
-    let opening = take_one(place)?;
-    let attrs = attrs(room, place)?;
-    opened_by(lent, mode, wanted, flag, opening, attrs, room, place, depth)
+    room_for(1, room, cursor)?;
+    let opening = take_one(cursor)?;
+    let attrs = attrs(room, cursor)?;
+    opened_by(
+        lent, mode, wanted, flag, opening, attrs, room, cursor, depth,
+    )
 }
 
 /// What stands in parentheses before brackets and parameters.
@@ -200,19 +204,19 @@ fn some_paren<'a, F>(
     wanted: Option<Kind>,
     flag: bool,
     room: u16,
-    place: &mut Place<'a>,
+    cursor: &mut Cursor<'a>,
     depth: u32,
 ) -> Result<Declared, ReadError>
 where
-    F: Fn(Ask, &mut Place<'a>) -> Result<Answer, ReadError>,
+    F: Fn(Ask, &mut Cursor<'a>) -> Result<Answer, ReadError>,
     requires { Lends F.Fn lent.now depth }
-    ensures { ReadsDeclr place.old place.new result
+    ensures { ReadsDeclr cursor.old cursor.new result
         (declaring.some_paren (knot depth) mode wanted flag room) }
 {
     match mode {
-        Mode::Named => named_paren(lent, wanted, flag, room, place, depth),
-        Mode::Abstract => opened(lent, Mode::Abstract, wanted, flag, room, place, depth),
-        Mode::Either => opened(lent, Mode::Either, wanted, flag, room, place, depth),
+        Mode::Named => named_paren(lent, wanted, flag, room, cursor, depth),
+        Mode::Abstract => opened(lent, Mode::Abstract, wanted, flag, room, cursor, depth),
+        Mode::Either => opened(lent, Mode::Either, wanted, flag, room, cursor, depth),
     }
 }
 
@@ -224,21 +228,21 @@ fn core<'a, F>(
     wanted: Option<Kind>,
     flag: bool,
     room: u16,
-    place: &mut Place<'a>,
+    cursor: &mut Cursor<'a>,
     depth: u32,
 ) -> Result<Declared, ReadError>
 where
-    F: Fn(Ask, &mut Place<'a>) -> Result<Answer, ReadError>,
+    F: Fn(Ask, &mut Cursor<'a>) -> Result<Answer, ReadError>,
     requires { Lends F.Fn lent.now depth }
-    ensures { ReadsDeclr place.old place.new result
+    ensures { ReadsDeclr cursor.old cursor.new result
         (declaring.core_with (knot depth) mode wanted flag room) }
 {
-    if is_open_paren(kind_at(place.rest)) {
-        some_paren(lent, mode, wanted, flag, room, place, depth)
-    } else if names_base(mode, wanted, place) {
-        base_named(room, place)
+    if is_open_paren(kind_at(cursor.rest)) {
+        some_paren(lent, mode, wanted, flag, room, cursor, depth)
+    } else if names_base(mode, wanted, cursor) {
+        base_named(room, cursor)
     } else {
-        name_or_none(mode, wanted, room, place, depth)
+        name_or_none(mode, wanted, room, cursor, depth)
     }
 }
 
@@ -250,17 +254,17 @@ fn direct<'a, F>(
     wanted: Option<Kind>,
     flag: bool,
     room: u16,
-    place: &mut Place<'a>,
+    cursor: &mut Cursor<'a>,
     depth: u32,
 ) -> Result<Declared, ReadError>
 where
-    F: Fn(Ask, &mut Place<'a>) -> Result<Answer, ReadError>,
+    F: Fn(Ask, &mut Cursor<'a>) -> Result<Answer, ReadError>,
     requires { Lends F.Fn lent.now depth }
-    ensures { ReadsDeclr place.old place.new result
+    ensures { ReadsDeclr cursor.old cursor.new result
         (declaring.direct_with (knot depth) mode wanted flag room) }
 {
-    let core = core(lent, mode, wanted, flag, room, place, depth)?;
-    suffixes(lent, core, flag, room, place, depth)
+    let core = core(lent, mode, wanted, flag, room, cursor, depth)?;
+    suffixes(lent, core, flag, room, cursor, depth)
 }
 
 /// `Pointer = * (qual | Attr)* declr`, `AbsPointer = * (qual | Attr)* [absdeclr]`.
@@ -271,21 +275,21 @@ fn pointer<'a, F>(
     wanted: Option<Kind>,
     flag: bool,
     room: u16,
-    place: &mut Place<'a>,
+    cursor: &mut Cursor<'a>,
     depth: u32,
 ) -> Result<Declared, ReadError>
 where
-    F: Fn(Ask, &mut Place<'a>) -> Result<Answer, ReadError>,
+    F: Fn(Ask, &mut Cursor<'a>) -> Result<Answer, ReadError>,
     requires { Lends F.Fn lent.now depth }
-    ensures { ReadsDeclr place.old place.new result
+    ensures { ReadsDeclr cursor.old cursor.new result
         (declaring.pointer_with (knot depth) mode wanted flag room) }
 {
-    room_for(least_pointer(mode), room, place)?;
-    let token = take_one(place)?;
-    let words = pointer_words(room, place)?;
+    room_for(least_pointer(mode), room, cursor)?;
+    let token = take_one(cursor)?;
+    let words = pointer_words(room, cursor)?;
     let inner = room.saturating_sub(1);
-    let found = declr_inside(lent, mode, wanted, flag, inner, place, depth)?;
-    let declr = with_pointer(place.alloc, token, words, found.declr)?;
+    let found = declr_inside(lent, mode, wanted, flag, inner, cursor, depth)?;
+    let declr = with_pointer(cursor.alloc, token, words, found.declr)?;
     Ok(Declared {
         declr,
         closed: found.closed,
@@ -304,18 +308,18 @@ pub fn declarator<'a, F>(
     wanted: Option<Kind>,
     flag: bool,
     room: u16,
-    place: &mut Place<'a>,
+    cursor: &mut Cursor<'a>,
     depth: u32,
 ) -> Result<Declared, ReadError>
 where
-    F: Fn(Ask, &mut Place<'a>) -> Result<Answer, ReadError>,
+    F: Fn(Ask, &mut Cursor<'a>) -> Result<Answer, ReadError>,
     requires { Lends F.Fn lent.now depth }
-    ensures { ReadsDeclr place.old place.new result
+    ensures { ReadsDeclr cursor.old cursor.new result
         (declaring.declr_with (knot depth) mode wanted flag room) }
 {
-    if is_star(kind_at(place.rest)) {
-        pointer(lent, mode, wanted, flag, room, place, depth)
+    if is_star(kind_at(cursor.rest)) {
+        pointer(lent, mode, wanted, flag, room, cursor, depth)
     } else {
-        direct(lent, mode, wanted, flag, room, place, depth)
+        direct(lent, mode, wanted, flag, room, cursor, depth)
     }
 }

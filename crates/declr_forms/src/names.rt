@@ -10,10 +10,10 @@ ghost use Rattle.declr_forms.specs.Names as names;
 ghost use Rattle.reader_base.specs.Lent.{ReadsDeclr};
 
 use c_nodes::{base_name, declr_name, no_declr};
-use c_reading::{Fault, Mode};
+use c_reading::{FaultKind, Mode};
 use qual_base::{NameId, NoMemory};
 use reader_base::{
-    Declared, Place, ReadError, is_base_word, kind_at, refused, room_for, spelled_name, take_one,
+    Cursor, Declared, ReadError, is_base_word, kind_at, refused, room_for, spelled_name, take_one,
 };
 use typedef_scope::Kind;
 
@@ -28,11 +28,11 @@ pub(crate) fn takes_name(mode: Mode) -> bool
 }
 
 /// No declarator, where none may stand.
-fn absent(mode: Mode, place: &mut Place) -> Result<Declared, ReadError>
-    ensures { ReadsDeclr place.old place.new result (declaring.absent mode) }
+fn absent(mode: Mode, cursor: &mut Cursor) -> Result<Declared, ReadError>
+    ensures { ReadsDeclr cursor.old cursor.new result (declaring.absent mode) }
 {
     match mode {
-        Mode::Named => Err(refused(Fault::Unexpected, place.rest)),
+        Mode::Named => Err(refused(FaultKind::Unexpected, cursor.rest)),
         Mode::Abstract | Mode::Either => Ok(Declared {
             declr: no_declr(),
             closed: None,
@@ -41,14 +41,14 @@ fn absent(mode: Mode, place: &mut Place) -> Result<Declared, ReadError>
 }
 
 /// Has the innermost scope hold a name where a kind is wanted, and answers whether it may.
-fn hold_wanted(wanted: Option<Kind>, name: NameId, place: &mut Place) -> Result<bool, NoMemory>
+fn hold_wanted(wanted: Option<Kind>, name: NameId, cursor: &mut Cursor) -> Result<bool, NoMemory>
     ensures held { IfOk result
-        (λ may. at_name wanted name place.old.scopes ≡ then_some may place.new.scopes) }
-    ensures rest { place.new.rest ≡ place.old.rest }
+        (λ may. at_name wanted name cursor.old.scopes ≡ then_some may cursor.new.scopes) }
+    ensures rest { cursor.new.rest ≡ cursor.old.rest }
 {
     match wanted {
         Some(kind) => {
-            let may = place.scopes.hold(name, kind)?;
+            let may = cursor.scopes.hold(name, kind)?;
             Ok(may)
         }
         None => Ok(true),
@@ -61,19 +61,19 @@ fn held_name(
     wanted: Option<Kind>,
     name: NameId,
     room: u16,
-    place: &mut Place,
+    cursor: &mut Cursor,
 ) -> Result<Declared, ReadError>
-    ensures { ReadsDeclr place.old place.new result (names.held_at wanted name room) }
+    ensures { ReadsDeclr cursor.old cursor.new result (names.held_at wanted name room) }
 {
-    if !hold_wanted(wanted, name, place)? {
-        return Err(refused(Fault::Redeclared, place.rest));
+    if !hold_wanted(wanted, name, cursor)? {
+        return Err(refused(FaultKind::Redeclared, cursor.rest));
     }
-    room_for(1, room, place)?;
-    let [first, rest @ ..] = place.rest else {
-        return Err(refused(Fault::Unexpected, place.rest));
+    room_for(1, room, cursor)?;
+    let [first, rest @ ..] = cursor.rest else {
+        return Err(refused(FaultKind::Unexpected, cursor.rest));
     };
-    let declr = declr_name(place.alloc, first.at, name)?;
-    place.rest = rest;
+    let declr = declr_name(cursor.alloc, first.at, name)?;
+    cursor.rest = rest;
     Ok(Declared {
         declr,
         closed: None,
@@ -85,29 +85,30 @@ pub(crate) fn name_or_none(
     mode: Mode,
     wanted: Option<Kind>,
     room: u16,
-    place: &mut Place,
+    cursor: &mut Cursor,
     depth: u32,
 ) -> Result<Declared, ReadError>
-    ensures { ReadsDeclr place.old place.new result (names.name_at (knot depth) mode wanted room) }
+    ensures { ReadsDeclr cursor.old cursor.new result
+        (names.name_at (knot depth) mode wanted room) }
 {
-    let Some(name) = spelled_name(kind_at(place.rest)) else {
-        return absent(mode, place);
+    let Some(name) = spelled_name(kind_at(cursor.rest)) else {
+        return absent(mode, cursor);
     };
     if takes_name(mode) {
-        held_name(wanted, name, room, place)
+        held_name(wanted, name, room, cursor)
     } else {
-        absent(mode, place)
+        absent(mode, cursor)
     }
 }
 
 /// Whether a base word stands here as the name of a typedef, in wider C.
-pub(crate) fn names_base(mode: Mode, wanted: Option<Kind>, place: &Place) -> bool
-    ensures { result ≡ declaring.names_base place.now.scopes mode wanted
-        (reading.kind_at place.now.rest.now) }
+pub(crate) fn names_base(mode: Mode, wanted: Option<Kind>, cursor: &Cursor) -> bool
+    ensures { result ≡ declaring.names_base cursor.now.scopes mode wanted
+        (reading.kind_at cursor.now.rest.now) }
 {
     match (mode, wanted) {
         (Mode::Named, Some(Kind::Typedef)) => {
-            place.scopes.is_wide() && is_base_word(kind_at(place.rest))
+            cursor.scopes.is_wide() && is_base_word(kind_at(cursor.rest))
         }
         _ => false,
     }
@@ -115,12 +116,12 @@ pub(crate) fn names_base(mode: Mode, wanted: Option<Kind>, place: &Place) -> boo
 
 /// A base word as the name of a typedef, which declares nothing.
 #[tactic(auto, unfolding(c_reading::specs::Reading::and_then, c_reading::specs::Reading::fits))]
-pub(crate) fn base_named(room: u16, place: &mut Place) -> Result<Declared, ReadError>
-    ensures { ReadsDeclr place.old place.new result (declaring.base_named room) }
+pub(crate) fn base_named(room: u16, cursor: &mut Cursor) -> Result<Declared, ReadError>
+    ensures { ReadsDeclr cursor.old cursor.new result (declaring.base_named room) }
 {
-    room_for(1, room, place)?;
-    let token = take_one(place)?;
-    let declr = base_name(place.alloc, token)?;
+    room_for(1, room, cursor)?;
+    let token = take_one(cursor)?;
+    let declr = base_name(cursor.alloc, token)?;
     Ok(Declared {
         declr,
         closed: None,

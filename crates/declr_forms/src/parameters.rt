@@ -20,8 +20,8 @@ use c_syntax::{Attr, Declr, Ellipsis, Qual};
 use decl_nodes::{words_of_attrs, words_of_quals};
 use qual_base::{NoMemory, TokenId};
 use reader_base::{
-    Answer, Ask, Place, ReadError, attrs, declr_inside, is_close_paren, is_comma, is_dots, kind_at,
-    quals, specs_here, specs_inside, take_one,
+    Answer, Ask, Cursor, ReadError, attrs, declr_inside, is_close_paren, is_comma, is_dots,
+    kind_at, quals, specs_here, specs_inside, take_one,
 };
 use std::alloc::Global;
 use typedef_scope::Kind;
@@ -96,20 +96,20 @@ fn param_words<'a, F>(
     lent: &F,
     known: SizedSpecs,
     room: u16,
-    place: &mut Place<'a>,
+    cursor: &mut Cursor<'a>,
     depth: u32,
 ) -> Result<SizedSpecs, ReadError>
 where
-    F: Fn(Ask, &mut Place<'a>) -> Result<Answer, ReadError>,
+    F: Fn(Ask, &mut Cursor<'a>) -> Result<Answer, ReadError>,
     requires { Lends F.Fn lent.now depth }
-    ensures { ReadsSpecs place.old place.new result
+    ensures { ReadsSpecs cursor.old cursor.new result
         (declaring.param_words (knot depth) (sized_specs known) room) }
 {
     match known.words.as_slice() {
-        [] => specs_here(lent, Role::Typed, room, place, depth),
+        [] => specs_here(lent, Role::Typed, room, cursor, depth),
         [_, ..] => {
             let inner = room.saturating_sub(1);
-            specs_inside(lent, Role::Typed, known, inner, place, depth)
+            specs_inside(lent, Role::Typed, known, inner, cursor, depth)
         }
     }
 }
@@ -118,16 +118,16 @@ where
 fn param_attrs(
     declr: &SizedDeclr,
     room: u16,
-    place: &mut Place,
+    cursor: &mut Cursor,
     depth: u32,
 ) -> Result<Vec<Attr>, ReadError>
-    ensures { ReadsRow place.old place.new result
+    ensures { ReadsRow cursor.old cursor.new result
         (attrs_behind depth (some_declr_from declr.now.declr) room) }
 {
     if takes_attrs(declr) {
-        attrs(room, place)
+        attrs(room, cursor)
     } else {
-        Ok(Vec::new(place.alloc))
+        Ok(Vec::new(cursor.alloc))
     }
 }
 
@@ -137,21 +137,21 @@ fn parameter<'a, F>(
     lent: &F,
     known: SizedSpecs,
     room: u16,
-    place: &mut Place<'a>,
+    cursor: &mut Cursor<'a>,
     depth: u32,
 ) -> Result<SizedParam, ReadError>
 where
-    F: Fn(Ask, &mut Place<'a>) -> Result<Answer, ReadError>,
+    F: Fn(Ask, &mut Cursor<'a>) -> Result<Answer, ReadError>,
     requires { Lends F.Fn lent.now depth }
-    ensures { ReadsParam place.old place.new result
+    ensures { ReadsParam cursor.old cursor.new result
         (declaring.param_with (knot depth) (sized_specs known) room) }
 {
-    let words = param_words(lent, known, room, place, depth)?;
+    let words = param_words(lent, known, room, cursor, depth)?;
     let wanted = Some(Kind::Value);
     let inner = room.saturating_sub(1);
-    let found = declr_inside(lent, Mode::Either, wanted, false, inner, place, depth)?;
-    place.scopes.release(Kind::Value)?;
-    let attrs = param_attrs(&found.declr, room, place, depth)?;
+    let found = declr_inside(lent, Mode::Either, wanted, false, inner, cursor, depth)?;
+    cursor.scopes.release(Kind::Value)?;
+    let attrs = param_attrs(&found.declr, room, cursor, depth)?;
     Ok(param(words, found.declr, attrs))
 }
 
@@ -161,21 +161,22 @@ fn next_param<'a, F>(
     lent: &F,
     room: u16,
     comma: TokenId,
-    place: &mut Place<'a>,
+    cursor: &mut Cursor<'a>,
     depth: u32,
 ) -> Result<NextParam, ReadError>
 where
-    F: Fn(Ask, &mut Place<'a>) -> Result<Answer, ReadError>,
+    F: Fn(Ask, &mut Cursor<'a>) -> Result<Answer, ReadError>,
     requires { Lends F.Fn lent.now depth }
-    ensures { ReadsNext place.old place.new result (declaring.next_param (knot depth) room comma) }
+    ensures { ReadsNext cursor.old cursor.new result
+        (declaring.next_param (knot depth) room comma) }
 {
-    let quals = quals(place)?;
-    if is_dots(kind_at(place.rest)) {
-        let dots = take_one(place)?;
+    let quals = quals(cursor)?;
+    if is_dots(kind_at(cursor.rest)) {
+        let dots = take_one(cursor)?;
         return Ok(NextParam::Dots(Ellipsis { comma, quals, dots }));
     }
-    let known = qual_words(place.alloc, quals)?;
-    let found = parameter(lent, known, room, place, depth)?;
+    let known = qual_words(cursor.alloc, quals)?;
+    let found = parameter(lent, known, room, cursor, depth)?;
     Ok(NextParam::Param(found))
 }
 
@@ -185,26 +186,26 @@ fn param_turn<'a, F>(
     lent: &F,
     known: &mut ParamList,
     room: u16,
-    place: &mut Place<'a>,
+    cursor: &mut Cursor<'a>,
     depth: u32,
 ) -> Result<bool, ReadError>
 where
-    F: Fn(Ask, &mut Place<'a>) -> Result<Answer, ReadError>,
+    F: Fn(Ask, &mut Cursor<'a>) -> Result<Answer, ReadError>,
     requires { Lends F.Fn lent.now depth }
-    ensures { Turns (list_of known.old) (list_of known.new) place.old place.new result
+    ensures { Turns (list_of known.old) (list_of known.new) cursor.old cursor.new result
         (params_turn depth room) }
 {
     if let Some(_) = &known.dots {
         return Ok(false);
     }
-    let [first, rest @ ..] = place.rest else {
+    let [first, rest @ ..] = cursor.rest else {
         return Ok(false);
     };
     if !is_comma(first.kind) {
         return Ok(false);
     }
-    place.rest = rest;
-    match next_param(lent, room, first.at, place, depth)? {
+    cursor.rest = rest;
+    match next_param(lent, room, first.at, cursor, depth)? {
         NextParam::Param(found) => known.items.push(found)?,
         NextParam::Dots(dots) => known.dots = Some(dots),
     }
@@ -223,17 +224,17 @@ fn more_params<'a, F>(
     lent: &F,
     known: ParamList,
     room: u16,
-    place: &mut Place<'a>,
+    cursor: &mut Cursor<'a>,
     depth: u32,
 ) -> Result<ParamList, ReadError>
 where
-    F: Fn(Ask, &mut Place<'a>) -> Result<Answer, ReadError>,
+    F: Fn(Ask, &mut Cursor<'a>) -> Result<Answer, ReadError>,
     requires { Lends F.Fn lent.now depth }
-    ensures { ReadsParams place.old place.new result (more_params depth room (list_of known)) }
+    ensures { ReadsParams cursor.old cursor.new result (more_params depth room (list_of known)) }
 {
     params_step(room, depth);
     let mut all = known;
-    while param_turn(lent, &mut all, room, place, depth)? {}
+    while param_turn(lent, &mut all, room, cursor, depth)? {}
     Ok(all)
 }
 
@@ -243,24 +244,24 @@ pub(crate) fn parameters<'a, F>(
     lent: &F,
     lead: Vec<Attr>,
     room: u16,
-    place: &mut Place<'a>,
+    cursor: &mut Cursor<'a>,
     depth: u32,
 ) -> Result<ParamList, ReadError>
 where
-    F: Fn(Ask, &mut Place<'a>) -> Result<Answer, ReadError>,
+    F: Fn(Ask, &mut Cursor<'a>) -> Result<Answer, ReadError>,
     requires { Lends F.Fn lent.now depth }
-    ensures { ReadsParams place.old place.new result
+    ensures { ReadsParams cursor.old cursor.new result
         (declaring.params_with (knot depth) lead.items room) }
 {
     let mut known = ParamList {
-        items: SizedParams::new(place.alloc),
+        items: SizedParams::new(cursor.alloc),
         dots: None,
     };
-    if lead.is_empty() && is_close_paren(kind_at(place.rest)) {
+    if lead.is_empty() && is_close_paren(kind_at(cursor.rest)) {
         return Ok(known);
     }
-    let words = attr_words(place.alloc, lead)?;
-    let first = parameter(lent, words, room, place, depth)?;
+    let words = attr_words(cursor.alloc, lead)?;
+    let first = parameter(lent, words, room, cursor, depth)?;
     known.items.push(first)?;
-    more_params(lent, known, room, place, depth)
+    more_params(lent, known, room, cursor, depth)
 }

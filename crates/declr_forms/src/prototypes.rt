@@ -21,7 +21,8 @@ use c_syntax::{Attr, Declr};
 use held_scopes::Closed;
 use qual_base::{NoMemory, TokenId};
 use reader_base::{
-    Answer, Ask, Declared, Place, ReadError, begins_identifiers, close_paren, identifiers, take_one,
+    Answer, Ask, Cursor, Declared, ReadError, begins_identifiers, close_paren, identifiers,
+    take_one,
 };
 
 /// Whether a declarator is a name alone, parentheses aside. Linear in the parentheses.
@@ -76,36 +77,36 @@ pub(crate) fn prototype<'a, F>(
     opening: TokenId,
     lead: Vec<Attr>,
     room: u16,
-    place: &mut Place<'a>,
+    cursor: &mut Cursor<'a>,
     depth: u32,
 ) -> Result<Declared, ReadError>
 where
-    F: Fn(Ask, &mut Place<'a>) -> Result<Answer, ReadError>,
+    F: Fn(Ask, &mut Cursor<'a>) -> Result<Answer, ReadError>,
     requires { Lends F.Fn lent.now depth }
-    ensures { ReadsDeclr place.old place.new result
+    ensures { ReadsDeclr cursor.old cursor.new result
         (declaring.prototype_with (knot depth) (declared_of known) opening lead.items room) }
 {
     let Declared {
         declr: inner,
         closed: before,
     } = known;
-    place.scopes.enter()?;
-    let list = parameters(lent, lead, room.saturating_sub(1), place, depth)?;
-    let closing = close_paren(place)?;
-    let scope = place.scopes.close();
+    cursor.scopes.enter()?;
+    let list = parameters(lent, lead, room.saturating_sub(1), cursor, depth)?;
+    let closing = close_paren(cursor)?;
+    let scope = cursor.scopes.close();
     let closed = closed_by(&inner, scope, before);
-    let declr = with_params(place.alloc, inner, opening, list.items, list.dots, closing)?;
+    let declr = with_params(cursor.alloc, inner, opening, list.items, list.dots, closing)?;
     Ok(Declared { declr, closed })
 }
 
 /// A scope without names, of the same unit.
-fn fresh_scope(place: &mut Place) -> Result<Closed, NoMemory>
-    ensures made { IfOk result (λ scope. scope ≡ new_scope (is_wide place.old.scopes)) }
-    ensures same { IfOk result (λ _. place.new.scopes ≡ place.old.scopes) }
-    ensures rest { place.new.rest ≡ place.old.rest }
+fn fresh_scope(cursor: &mut Cursor) -> Result<Closed, NoMemory>
+    ensures made { IfOk result (λ scope. scope ≡ new_scope (is_wide cursor.old.scopes)) }
+    ensures same { IfOk result (λ _. cursor.new.scopes ≡ cursor.old.scopes) }
+    ensures rest { cursor.new.rest ≡ cursor.old.rest }
 {
-    place.scopes.enter()?;
-    Ok(place.scopes.close())
+    cursor.scopes.enter()?;
+    Ok(cursor.scopes.close())
 }
 
 /// `Params = direct ( Name (, Name)* )`, behind a name and the parenthesis. The scope of the
@@ -114,16 +115,16 @@ fn fresh_scope(place: &mut Place) -> Result<Closed, NoMemory>
 fn list_behind(
     inner: PresentDeclr,
     opening: TokenId,
-    place: &mut Place,
+    cursor: &mut Cursor,
     depth: u32,
 ) -> Result<Declared, ReadError>
-    ensures { ReadsDeclr place.old place.new result
+    ensures { ReadsDeclr cursor.old cursor.new result
         (declaring.identifiers_with (knot depth) (declr_of inner.declr.value) opening) }
 {
-    let closed = fresh_scope(place)?;
-    let names = identifiers(place)?;
-    let closing = close_paren(place)?;
-    let declr = with_identifiers(place.alloc, inner, opening, names, closing)?;
+    let closed = fresh_scope(cursor)?;
+    let names = identifiers(cursor)?;
+    let closing = close_paren(cursor)?;
+    let declr = with_identifiers(cursor.alloc, inner, opening, names, closing)?;
     Ok(Declared {
         declr,
         closed: Some(closed),
@@ -137,30 +138,30 @@ fn behind_paren<'a, F>(
     known: Declared,
     opening: TokenId,
     room: u16,
-    place: &mut Place<'a>,
+    cursor: &mut Cursor<'a>,
     depth: u32,
 ) -> Result<Declared, ReadError>
 where
-    F: Fn(Ask, &mut Place<'a>) -> Result<Answer, ReadError>,
+    F: Fn(Ask, &mut Cursor<'a>) -> Result<Answer, ReadError>,
     requires { Lends F.Fn lent.now depth }
-    ensures { ReadsDeclr place.old place.new result
+    ensures { ReadsDeclr cursor.old cursor.new result
         (behind_paren depth (declared_of known) opening room) }
 {
     let Declared { declr, closed } = known;
-    let lead = Vec::new(place.alloc);
+    let lead = Vec::new(cursor.alloc);
     match present(declr) {
         Some(inner) => {
-            if is_bare(&inner.declr) && begins_identifiers(place) {
-                return list_behind(inner, opening, place, depth);
+            if is_bare(&inner.declr) && begins_identifiers(cursor) {
+                return list_behind(inner, opening, cursor, depth);
             }
             let declr = some_declr(inner);
             let known = Declared { declr, closed };
-            prototype(lent, known, opening, lead, room, place, depth)
+            prototype(lent, known, opening, lead, room, cursor, depth)
         }
         None => {
             let declr = no_declr();
             let known = Declared { declr, closed };
-            prototype(lent, known, opening, lead, room, place, depth)
+            prototype(lent, known, opening, lead, room, cursor, depth)
         }
     }
 }
@@ -173,19 +174,19 @@ pub(crate) fn params_behind<'a, F>(
     flag: bool,
     known: Declared,
     room: u16,
-    place: &mut Place<'a>,
+    cursor: &mut Cursor<'a>,
     depth: u32,
 ) -> Result<Declared, ReadError>
 where
-    F: Fn(Ask, &mut Place<'a>) -> Result<Answer, ReadError>,
+    F: Fn(Ask, &mut Cursor<'a>) -> Result<Answer, ReadError>,
     requires { Lends F.Fn lent.now depth }
-    ensures { ReadsDeclr place.old place.new result
+    ensures { ReadsDeclr cursor.old cursor.new result
         (declaring.params_behind (knot depth) flag (declared_of known) room) }
 {
-    let opening = take_one(place)?;
+    let opening = take_one(cursor)?;
     if flag {
-        return behind_paren(lent, known, opening, room, place, depth);
+        return behind_paren(lent, known, opening, room, cursor, depth);
     }
-    let lead = Vec::new(place.alloc);
-    prototype(lent, known, opening, lead, room, place, depth)
+    let lead = Vec::new(cursor.alloc);
+    prototype(lent, known, opening, lead, room, cursor, depth)
 }

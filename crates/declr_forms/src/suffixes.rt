@@ -17,7 +17,7 @@ use c_reading::turns_take_tokens;
 use c_words::TokenKind;
 use qual_base::NoMemory;
 use reader_base::{
-    Answer, Ask, Declared, Place, ReadError, is_open_bracket, is_open_paren, kind_at, room_above,
+    Answer, Ask, Cursor, Declared, ReadError, is_open_bracket, is_open_paren, kind_at, room_above,
 };
 use std::mem::replace;
 
@@ -53,18 +53,18 @@ fn brackets<'a, F>(
     known: Declared,
     flag: bool,
     room: u16,
-    place: &mut Place<'a>,
+    cursor: &mut Cursor<'a>,
     depth: u32,
 ) -> Result<Declared, ReadError>
 where
-    F: Fn(Ask, &mut Place<'a>) -> Result<Answer, ReadError>,
+    F: Fn(Ask, &mut Cursor<'a>) -> Result<Answer, ReadError>,
     requires { Lends F.Fn lent.now depth }
-    ensures { ReadsDeclr place.old place.new result
+    ensures { ReadsDeclr cursor.old cursor.new result
         (brackets_at depth flag room (declared_of known)) }
 {
-    let own = room_at(flag, room, &known, kind_at(place.rest))?;
-    room_above(known.declr.height, own, place)?;
-    array(lent, known, own, place, depth)
+    let own = room_at(flag, room, &known, kind_at(cursor.rest))?;
+    room_above(known.declr.height, own, cursor)?;
+    array(lent, known, own, cursor, depth)
 }
 
 /// Parameters behind a declarator, where they have room.
@@ -74,18 +74,18 @@ fn prototypes<'a, F>(
     known: Declared,
     flag: bool,
     room: u16,
-    place: &mut Place<'a>,
+    cursor: &mut Cursor<'a>,
     depth: u32,
 ) -> Result<Declared, ReadError>
 where
-    F: Fn(Ask, &mut Place<'a>) -> Result<Answer, ReadError>,
+    F: Fn(Ask, &mut Cursor<'a>) -> Result<Answer, ReadError>,
     requires { Lends F.Fn lent.now depth }
-    ensures { ReadsDeclr place.old place.new result
+    ensures { ReadsDeclr cursor.old cursor.new result
         (params_at depth flag room (declared_of known)) }
 {
-    let own = room_at(flag, room, &known, kind_at(place.rest))?;
-    room_above(known.declr.height, own, place)?;
-    params_behind(lent, flag, known, own, place, depth)
+    let own = room_at(flag, room, &known, kind_at(cursor.rest))?;
+    room_above(known.declr.height, own, cursor)?;
+    params_behind(lent, flag, known, own, cursor, depth)
 }
 
 /// No declarator.
@@ -102,23 +102,23 @@ fn suffix_turn<'a, F>(
     known: &mut Declared,
     flag: bool,
     room: u16,
-    place: &mut Place<'a>,
+    cursor: &mut Cursor<'a>,
     depth: u32,
 ) -> Result<bool, ReadError>
 where
-    F: Fn(Ask, &mut Place<'a>) -> Result<Answer, ReadError>,
+    F: Fn(Ask, &mut Cursor<'a>) -> Result<Answer, ReadError>,
     requires { Lends F.Fn lent.now depth }
-    ensures { Turns (declared_of known.old) (declared_of known.new) place.old place.new result
+    ensures { Turns (declared_of known.old) (declared_of known.new) cursor.old cursor.new result
         (suffixes_turn depth flag room) }
 {
-    if is_open_bracket(kind_at(place.rest)) {
+    if is_open_bracket(kind_at(cursor.rest)) {
         let inner = replace(known, none());
-        *known = brackets(lent, inner, flag, room, place, depth)?;
+        *known = brackets(lent, inner, flag, room, cursor, depth)?;
         return Ok(true);
     }
-    if is_open_paren(kind_at(place.rest)) {
+    if is_open_paren(kind_at(cursor.rest)) {
         let inner = replace(known, none());
-        *known = prototypes(lent, inner, flag, room, place, depth)?;
+        *known = prototypes(lent, inner, flag, room, cursor, depth)?;
         return Ok(true);
     }
     Ok(false)
@@ -137,17 +137,17 @@ pub(crate) fn suffixes<'a, F>(
     core: Declared,
     flag: bool,
     room: u16,
-    place: &mut Place<'a>,
+    cursor: &mut Cursor<'a>,
     depth: u32,
 ) -> Result<Declared, ReadError>
 where
-    F: Fn(Ask, &mut Place<'a>) -> Result<Answer, ReadError>,
+    F: Fn(Ask, &mut Cursor<'a>) -> Result<Answer, ReadError>,
     requires { Lends F.Fn lent.now depth }
-    ensures { ReadsDeclr place.old place.new result
+    ensures { ReadsDeclr cursor.old cursor.new result
         (more_suffixes depth flag room (declared_of core)) }
 {
     suffixes_step(flag, room, depth);
     let mut known = core;
-    while suffix_turn(lent, &mut known, flag, room, place, depth)? {}
+    while suffix_turn(lent, &mut known, flag, room, cursor, depth)? {}
     Ok(known)
 }

@@ -6,25 +6,25 @@ ghost use Rattle.reader_base.specs.Lent.{Lends, ReadsTypeName};
 
 use c_nodes::{SizedSpecs, SizedTypeName};
 use c_reading::{Mode, Role};
-use reader_base::{Answer, Ask, Place, ReadError, declr_inside, specs_inside};
+use reader_base::{Answer, Ask, Cursor, ReadError, declr_inside, specs_inside};
 
 /// `TypeName = Specs [absdeclr]`. Constant time, beside the readers inside.
 #[tactic(auto, unfolding(c_reading::specs::Declaring::type_name_with, c_reading::specs::Reading::and_then))]
 pub fn type_name<'a, F>(
     lent: &F,
     room: u16,
-    place: &mut Place<'a>,
+    cursor: &mut Cursor<'a>,
     depth: u32,
 ) -> Result<SizedTypeName, ReadError>
 where
-    F: Fn(Ask, &mut Place<'a>) -> Result<Answer, ReadError>,
+    F: Fn(Ask, &mut Cursor<'a>) -> Result<Answer, ReadError>,
     requires { Lends F.Fn lent.now depth }
-    ensures { ReadsTypeName place.old place.new result
+    ensures { ReadsTypeName cursor.old cursor.new result
         (declaring.type_name_with (knot depth) room) }
 {
     let inner = room.saturating_sub(1);
-    let none = SizedSpecs::new(place.alloc);
-    let words = specs_inside(lent, Role::Naming, none, inner, place, depth)?;
-    let found = declr_inside(lent, Mode::Abstract, None, false, inner, place, depth)?;
+    let none = SizedSpecs::new(cursor.alloc);
+    let words = specs_inside(lent, Role::Naming, none, inner, cursor, depth)?;
+    let found = declr_inside(lent, Mode::Abstract, None, false, inner, cursor, depth)?;
     Ok(c_nodes::type_name(words, found.declr))
 }

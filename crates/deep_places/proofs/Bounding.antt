@@ -8,7 +8,7 @@ use Rattle.c_reading.specs.Specifying.{without_body, declared}
 use Rattle.c_tree.specs.declared.lexeme.Lexeme.{Lexeme}
 use Rattle.c_syntax.specs.declared.parts.Identifier.{Identifier}
 use Rattle.c_units.specs.HeldScopes.{HeldScopes}
-use Rattle.c_reading.specs.declared.kinds.Fault.TheVariants.{Unexpected, TooDeep}
+use Rattle.c_reading.specs.declared.kinds.FaultKind.TheVariants.{Unexpected, TooDeep}
 use Rattle.c_reading.specs.Reading.{Found, Read, Reader, Turn, and_then, ends, refuses, fits, number_at, kind_at, take_one, token_at, run, repeated, repeated_turn, listed, comma_turn, comma_turn_by, with_next, Next, one_more, list_end, CommaList, is_comma}
 use Rattle.c_reading.specs.Tokens.{is_end, name_at, name_by, tag_at, tag_by, spelled_name, made_at, made_by}
 use Rattle.c_reading.proofs.Binding.{done}
@@ -37,14 +37,23 @@ bound_weaker height c room d c2 room2 d2 ts (Ok x) more wide b =
 bound_weaker height c room d c2 room2 d2 ts (Err e) more wide b = record {
   held = λ is.
       let h = b.held is in
-      record { before = h.before; first = h.first; rest = h.rest; parts = h.parts; place = h.place; deep = let l = h.deep in omega arith };
+      record {
+        before = h.before;
+        first = h.first;
+        rest = h.rest;
+        parts = h.parts;
+        place = h.place;
+        deep = let l = h.deep in omega arith;
+      };
 }
 
 -- one reader behind another
-pub bound_bind : {A B : Type 0} (ha : A → ℕ) (height : B → ℕ) (ca c room d : ℕ) (ts : List Lexeme) (r : Read A) (f : Found A → Read
+pub bound_bind : {A B : Type 0} (ha : A → ℕ) (height : B → ℕ) (ca c room d : ℕ) (ts : List Lexeme) (r : Read A)
+    (f : Found A → Read
     B) → BoundAt ha ca room d ts r →
-    ((x : Found A) (before : List Lexeme) → r ≡ done x → ha x.tree ≤ 8 * length before + ca → BoundAt height (8 * length before + c)
-    room (8 * length before + d) x.rest (f x)) → BoundAt height c room d ts (and_then r f)
+    ((x : Found A) (before : List Lexeme) → r ≡ done x → ha x.tree ≤ 8 * length before + ca
+    → BoundAt height (8 * length before + c) room (8 * length before + d) x.rest (f x))
+    → BoundAt height c room d ts (and_then r f)
 unfolding and_then
 bound_bind ha height ca c room d ts (Err e) f b next = record { held = b.held }
 bound_bind {A} {B} ha height ca c room d ts (Ok x) f b next = by_next (f x) (next x b.held.before refl b.held.low)
@@ -55,7 +64,8 @@ bound_bind {A} {B} ha height ca c room d ts (Ok x) f b next = by_next (f x) (nex
     by_next (Ok y) h = record {
       held = record {
         before = b.held.before ++ h.held.before;
-        parts = b.held.parts ∙ ap (λ (k : List Lexeme). b.held.before ++ k) h.held.parts ∙ sym (append_assoc b.held.before
+        parts = b.held.parts ∙ ap (λ (k : List Lexeme). b.held.before ++ k) h.held.parts
+            ∙ sym (append_assoc b.held.before
             h.held.before y.rest);
         low = let l = h.held.low in let both = length_both b.held.before h.held.before in omega arith;
       };
@@ -67,7 +77,8 @@ bound_bind {A} {B} ha height ca c room d ts (Ok x) f b next = by_next (f x) (nex
             before = b.held.before ++ g.before;
             first = g.first;
             rest = g.rest;
-            parts = b.held.parts ∙ ap (λ (k : List Lexeme). b.held.before ++ k) g.parts ∙ sym (append_assoc b.held.before g.before
+            parts = b.held.parts ∙ ap (λ (k : List Lexeme). b.held.before ++ k) g.parts
+                ∙ sym (append_assoc b.held.before g.before
                 (g.first ∷ g.rest));
             place = g.place;
             deep = let l = g.deep in let both = length_both b.held.before g.before in omega arith;
@@ -148,26 +159,29 @@ bound_tag room d s (t ∷ ts) = by_name (spelled_name t.kind)
 
 -- Loops: a state that is low for what was taken before stays so.
 module _ {S : Type 0} (turn : Turn S) (shrinks : TurnShrinks turn) (height : S → ℕ) (room more floor : ℕ)
-    (step : (a : S) (s : HeldScopes) (ts : List Lexeme) (c : ℕ) → floor ≤ c → height a ≤ c → StepAt height c room (c + more) ts
+    (step : (a : S) (s : HeldScopes) (ts : List Lexeme) (c : ℕ) → floor ≤ c → height a ≤ c
+    → StepAt height c room (c + more) ts
     (turn a s ts)) where
   run_on : (n : ℕ) (a : S) (s : HeldScopes) (ts : List Lexeme) (c : ℕ) → length ts < n → floor ≤ c → height a ≤ c
       → BoundAt height c
       room (c + more) ts (run turn a s ts)
   run_on zero a s ts c less high low = absurd (omega (arith, less))
   run_on (suc n) a s ts c less high low =
-      subst (BoundAt height c room (c + more) ts) (sym (run_is turn shrinks a s ts)) (by_turn (λ a s ts c. run_on n a s ts c) (turn
-      a s ts) refl (step a s ts c high low))
+      subst (BoundAt height c room (c + more) ts) (sym (run_is turn shrinks a s ts))
+      (by_turn (λ a s ts c. run_on n a s ts c) (turn a s ts) refl (step a s ts c high low))
     where
-      by_turn : ((a : S) (s : HeldScopes) (ts : List Lexeme) (c : ℕ) → length ts < n → floor ≤ c → height a ≤ c → BoundAt height c
+      by_turn : ((a : S) (s : HeldScopes) (ts : List Lexeme) (c : ℕ) → length ts < n → floor ≤ c → height a ≤ c
+          → BoundAt height c
           room (c + more) ts (run turn a s ts)) →
-          (o : Option (Read S)) → turn a s ts ≡ o → StepAt height c room (c + more) ts o → BoundAt height c room (c + more) ts
+          (o : Option (Read S)) → turn a s ts ≡ o → StepAt height c room (c + more) ts o
+          → BoundAt height c room (c + more) ts
           (after o a s ts (run turn))
       by_turn again None is h = bound_ends height c room (c + more) a s ts low
       by_turn again (Some read) is h =
           bound_bind height height c c room (c + more) ts read (λ x. run turn x.tree x.scopes x.rest) h
           (λ x before e l. let fewer : length x.rest < length ts = shrinks a s ts x (is ∙ ap Some e) in
-          bound_weaker height (8 * length before + c) room (8 * length before + c + more) (8 * length before + c) room (8 * length
-          before + (c + more)) x.rest (run turn x.tree x.scopes x.rest) (omega arith) (omega arith)
+          bound_weaker height (8 * length before + c) room (8 * length before + c + more) (8 * length before + c) room
+          (8 * length before + (c + more)) x.rest (run turn x.tree x.scopes x.rest) (omega arith) (omega arith)
           (again x.tree x.scopes x.rest (8 * length before + c) (omega (arith, fewer, less)) (omega arith) l))
 
   pub bound_run : (a : S) (s : HeldScopes) (ts : List Lexeme) (c : ℕ) → floor ≤ c → height a ≤ c
@@ -190,8 +204,10 @@ pub bound_repeated : {T : Type 0} (begins : TokenKind → Bool) (read : Reader T
     (ts : List Lexeme) → BoundAt (most_of height) c room d ts (repeated begins read s ts)
 unfolding repeated
 bound_repeated {T} begins read height c room d shrinks less item s ts =
-    bound_weaker (most_of height) c room (c + (d - c)) c room d ts (run (repeated_turn begins read) [] s ts) (omega arith) (omega arith)
-    (bound_run (repeated_turn begins read) (row_turn_shrinks begins read shrinks) (most_of height) room (d - c) c step [] s ts c
+    bound_weaker (most_of height) c room (c + (d - c)) c room d ts (run (repeated_turn begins read) [] s ts)
+    (omega arith) (omega arith)
+    (bound_run (repeated_turn begins read) (row_turn_shrinks begins read shrinks) (most_of height) room
+    (d - c) c step [] s ts c
     (omega arith) (omega arith))
   where
     step : (xs : List T) (s : HeldScopes) (ts : List Lexeme) (e : ℕ) → c ≤ e → most_of height xs ≤ e
@@ -204,9 +220,12 @@ bound_repeated {T} begins read height c room d shrinks less item s ts =
             (read s ts) (λ x. ends (xs ++ x.tree ∷ []) x.scopes x.rest)) else None)
         by_test false is = tt
         by_test true is =
-            bound_bind height (most_of height) c e room (e + (d - c)) ts (read s ts) (λ x. ends (xs ++ x.tree ∷ []) x.scopes x.rest)
-            (bound_weaker height c room d c room (e + (d - c)) ts (read s ts) (omega arith) (omega arith) (item s ts is))
-            (λ x before is l. bound_ends (most_of height) (8 * length before + e) room (8 * length before + (e + (d - c))) (xs ++
+            bound_bind height (most_of height) c e room (e + (d - c)) ts (read s ts)
+            (λ x. ends (xs ++ x.tree ∷ []) x.scopes x.rest)
+            (bound_weaker height c room d c room (e + (d - c)) ts (read s ts) (omega arith) (omega arith)
+            (item s ts is))
+            (λ x before is l.
+            bound_ends (most_of height) (8 * length before + e) room (8 * length before + (e + (d - c))) (xs ++
             x.tree ∷ []) x.scopes x.rest
             (most_push height xs x.tree (8 * length before + e) (omega arith) (omega arith)))
 
@@ -256,26 +275,25 @@ with_next_low height xs (list_end e) c h l = h
 pub bound_commas : {T E : Type 0} (next : ℕ → Reader (Next T E)) (height : T → ℕ) (c room d : ℕ)
     → ((comma : ℕ) → Falls (next
     comma)) → c ≤ d →
-    ((comma : ℕ) (s : HeldScopes) (ts : List Lexeme) → BoundAt (next_height height) c room d ts (next comma s ts)) → (l : CommaList
-    T E) (s : HeldScopes) (ts : List Lexeme) (e : ℕ) → c ≤ e → most_of height l.items ≤ e →
+    ((comma : ℕ) (s : HeldScopes) (ts : List Lexeme) → BoundAt (next_height height) c room d ts (next comma s ts))
+    → (l : CommaList T E) (s : HeldScopes) (ts : List Lexeme) (e : ℕ) → c ≤ e → most_of height l.items ≤ e →
     BoundAt (list_height height) e room (e + (d - c)) ts (run (comma_turn next) l s ts)
 bound_commas {T} {E} next height c room d falls less item l s ts e high low =
-    bound_run (comma_turn next) (comma_turn_shrinks (λ s ts. refuses Unexpected ts) next falls) (list_height height) room (d - c) c
-    step l s ts e high low
+    bound_run (comma_turn next) (comma_turn_shrinks (λ s ts. refuses Unexpected ts) next falls)
+    (list_height height) room (d - c) c step l s ts e high low
   where
     one : (xs : List T) (comma : ℕ) (s : HeldScopes) (t : Lexeme) (ts : List Lexeme) (e : ℕ) → c ≤ e
         → most_of height xs ≤ e →
-        BoundAt (list_height height) e room (e + (d - c)) (t ∷ ts) (and_then (next comma s ts) (λ x. ends (with_next xs x.tree)
-        x.scopes x.rest))
+        BoundAt (list_height height) e room (e + (d - c)) (t ∷ ts)
+        (and_then (next comma s ts) (λ x. ends (with_next xs x.tree) x.scopes x.rest))
     one xs comma s t ts e high low =
-        bound_front (list_height height) e room (e + (d - c)) t ts (and_then (next comma s ts) (λ x. ends (with_next xs x.tree)
-        x.scopes x.rest))
-        (bound_bind (next_height height) (list_height height) c e room (e + (d - c)) ts (next comma s ts) (λ x. ends (with_next xs
-        x.tree) x.scopes x.rest)
-        (bound_weaker (next_height height) c room d c room (e + (d - c)) ts (next comma s ts) (omega arith) (omega arith) (item comma s ts))
-        (λ x before is l. bound_ends (list_height height) (8 * length before + e) room (8 * length before + (e + (d - c)))
-        (with_next xs x.tree) x.scopes x.rest
-        (with_next_low height xs x.tree (8 * length before + e) (omega arith) (omega arith))))
+        bound_front (list_height height) e room (e + (d - c)) t ts
+        (and_then (next comma s ts) (λ x. ends (with_next xs x.tree) x.scopes x.rest))
+        (bound_bind (next_height height) (list_height height) c e room (e + (d - c)) ts (next comma s ts)
+        (λ x. ends (with_next xs x.tree) x.scopes x.rest) (bound_weaker (next_height height) c room d c room
+        (e + (d - c)) ts (next comma s ts) (omega arith) (omega arith) (item comma s ts)) (λ x before is l. bound_ends
+        (list_height height) (8 * length before + e) room (8 * length before + (e + (d - c))) (with_next xs x.tree)
+        x.scopes x.rest (with_next_low height xs x.tree (8 * length before + e) (omega arith) (omega arith))))
 
     step : (l : CommaList T E) (s : HeldScopes) (ts : List Lexeme) (e : ℕ) → c ≤ e → most_of height l.items ≤ e → StepAt
         (list_height height) e room (e + (d - c)) ts (comma_turn next l s ts)
@@ -297,19 +315,19 @@ bound_commas {T} {E} next height c room d falls less item l s ts e high low =
 pub bound_listed : {T E : Type 0} (first : Reader T) (next : ℕ → Reader (Next T E)) (height : T → ℕ) (c room d : ℕ)
     → ((comma : ℕ) →
     Falls (next comma)) → c ≤ d → (s : HeldScopes) (ts : List Lexeme) → BoundAt height c room d ts (first s ts) →
-    ((comma : ℕ) (s : HeldScopes) (ts : List Lexeme) → BoundAt (next_height height) c room d ts (next comma s ts)) → BoundAt
+    ((comma : ℕ) (s : HeldScopes) (ts : List Lexeme)
+    → BoundAt (next_height height) c room d ts (next comma s ts)) → BoundAt
     (list_height height) c room d ts (listed first next s ts)
 unfolding listed
 bound_listed first next height c room d falls less s ts b item =
     bound_bind height (list_height height) c c room d ts (first s ts) (λ x. run (comma_turn next) (record {
       items = x.tree ∷ [];
       ending = None;
-    }) x.scopes x.rest) b
-    (λ x before is l. bound_weaker (list_height height) (8 * length before + c) room (8 * length before + c + (d - c)) (8 * length
-    before + c) room (8 * length before + d) x.rest
+    }) x.scopes x.rest) b (λ x before is l. bound_weaker (list_height height) (8 * length before + c) room
+    (8 * length before + c + (d - c)) (8 * length before + c) room (8 * length before + d) x.rest
     (run (comma_turn next) (record { items = x.tree ∷ []; ending = None }) x.scopes x.rest) (omega arith) (omega arith)
-    (bound_commas next height c room d falls less item (record { items = x.tree ∷ []; ending = None }) x.scopes x.rest (8 * length
-    before + c) (omega arith) (omega arith)))
+    (bound_commas next height c room d falls less item (record { items = x.tree ∷ []; ending = None }) x.scopes x.rest
+    (8 * length before + c) (omega arith) (omega arith)))
 
 -- A test that the end does not pass.
 
@@ -329,10 +347,9 @@ pub bound_count : {T : Type 0} (begins : TokenKind → Bool) (read : Reader T) (
     HeldScopes) (ts : List Lexeme) → BoundAt (λ (xs : List T). length xs) 0 room d ts (repeated begins read s ts)
 unfolding repeated
 bound_count {T} begins read room d shrinks item s ts =
-    bound_weaker (λ (xs : List T). length xs) 0 room (0 + d) 0 room d ts (run (repeated_turn begins read) [] s ts) (omega arith)
-    (omega arith)
-    (bound_run (repeated_turn begins read) (row_turn_shrinks begins read shrinks) (λ (xs : List T). length xs) room d 0 step [] s ts
-    0 (omega arith) (omega arith))
+    bound_weaker (λ (xs : List T). length xs) 0 room (0 + d) 0 room d ts (run (repeated_turn begins read) [] s ts)
+    (omega arith) (omega arith) (bound_run (repeated_turn begins read) (row_turn_shrinks begins read shrinks)
+    (λ (xs : List T). length xs) room d 0 step [] s ts 0 (omega arith) (omega arith))
   where
     longer_by : (xs : List T) (x : T) → length (xs ++ x ∷ []) ≡ suc (length xs)
     longer_by [] x = refl
@@ -348,14 +365,14 @@ bound_count {T} begins read room d shrinks item s ts =
             (and_then (read s ts) (λ x. ends (xs ++ x.tree ∷ []) x.scopes x.rest)) else None)
         by_test false is = tt
         by_test true is =
-            bound_bind token_levels (λ (xs : List T). length xs) 0 e room (e + d) ts (read s ts) (λ x. ends (xs ++ x.tree ∷ [])
-            x.scopes x.rest)
-            (bound_weaker token_levels 0 room d 0 room (e + d) ts (read s ts) (omega arith) (omega arith) (item s ts is))
-            (λ x before is l. bound_ends (λ (xs : List T). length xs) (8 * length before + e) room (8 * length before + (e + d)) (xs
-            ++ x.tree ∷ []) x.scopes x.rest
-            (let more = longer_by xs x.tree in omega arith))
+            bound_bind token_levels (λ (xs : List T). length xs) 0 e room (e + d) ts (read s ts)
+            (λ x. ends (xs ++ x.tree ∷ []) x.scopes x.rest) (bound_weaker token_levels 0 room d 0 room (e + d) ts
+            (read s ts) (omega arith) (omega arith) (item s ts is)) (λ x before is l.
+            bound_ends (λ (xs : List T). length xs) (8 * length before + e) room (8 * length before + (e + d))
+            (xs ++ x.tree ∷ []) x.scopes x.rest (let more = longer_by xs x.tree in omega arith))
 
-pub bound_without : {A : Type 0} (height : A → ℕ) (c room d : ℕ) (tag : Option Identifier) (a : A) (s : HeldScopes) (ts : List
+pub bound_without : {A : Type 0} (height : A → ℕ) (c room d : ℕ) (tag : Option Identifier) (a : A)
+    (s : HeldScopes) (ts : List
     Lexeme) → height a ≤ c → BoundAt height c room d ts (without_body tag a s ts)
 bound_without height c room d None a s ts low = record { held = λ e. absurd cc }
 bound_without height c room d (Some tag) a s ts low = bound_ends height c room d a s ts low

@@ -6,7 +6,7 @@ use Rattle.c_syntax.specs.declared.parts.Qual.{Qual}
 use Rattle.c_syntax.specs.declared.parts.PointerWord.{PointerWord}
 use Rattle.c_syntax.specs.declared.parts.ArrayWord.{ArrayWord}
 use Rattle.c_tree.specs.Unit.{declarations_height}
-use Rattle.c_tree.specs.Tree.{declr_name, identifiers, base_name, Declaration, Expr, Assoc, StructItem, Desig, BlockItem, SpecWords, no_words, more_words, SpecWord, Declr, pointer, array, params, declr_paren, abs_pointer, abs_array, abs_params, abs_paren, SomeDeclr, no_declr, some_declr, SomeSize, Params, Dots}
+use Rattle.c_tree.specs.Tree.{Declaration, Expr, Assoc, StructItem, Desig, BlockItem, SpecWords, no_words, more_words, SpecWord, Declr, pointer, array, params, declr_paren, abs_pointer, abs_array, abs_params, abs_paren, SomeDeclr, no_declr, some_declr, SomeSize, Params, Dots}
 use Rattle.c_tree.specs.Height.{declaration_height, expr_height, assoc_height, assocs_height, exprs_height, struct_item_height, struct_items_height, mem_declrs_height, enumerators_height, params_height, desig_height, desigs_height, init_items_height, init_declrs_height, block_height, block_item_height, specs_height, spec_word_height, declr_height, some_declr_height, some_size_height, attrs_height, pointer_words_height}
 use Rattle.c_tree.specs.WellFormed.{is_named}
 use Rattle.c_specs.specs.Reading.{pushed}
@@ -95,10 +95,6 @@ pub low_pushed : (ws : SpecWords) (w : SpecWord)
 low_pushed no_words w = omega arith
 low_pushed (more_words v ws) w = let rest = low_pushed ws w in omega arith
 
-pub low_specs : (ws : SpecWords) → 1 ≤ specs_height ws
-low_specs no_words = omega arith
-low_specs (more_words w ws) = omega arith
-
 -- by whether a name is there
 either : (b : Bool) (one two : Declr) (h : ℕ) → declr_height one ≤ h → declr_height two ≤ h
     → declr_height (if b then one else two) ≤ h
@@ -110,7 +106,8 @@ pub low_pointer : (token : ℕ) (words : List PointerWord) (d : SomeDeclr)
     → declr_height (with_pointer token words d) ≤ max
     (pointer_words_height words) (some_declr_height d) + 1
 low_pointer token words no_declr = omega arith
-low_pointer token words (some_declr d) = either (is_named d) (pointer token words d) (abs_pointer token words (some_declr d)) (max
+low_pointer token words (some_declr d) =
+    either (is_named d) (pointer token words d) (abs_pointer token words (some_declr d)) (max
     (pointer_words_height words) (declr_height d) + 1) (omega arith) (omega arith)
 
 -- an array is at most one higher than its declarator, if any, and its size
@@ -118,21 +115,25 @@ pub low_array : (d : SomeDeclr) (opening : ℕ) (words : List ArrayWord) (size :
     → declr_height (with_array d
     opening words size closing) ≤ max (some_declr_height d) (some_size_height size) + 1
 low_array no_declr opening words size closing = omega arith
-low_array (some_declr d) opening words size closing = either (is_named d) (array d opening words size closing) (abs_array
-    (some_declr d) opening words size closing) (max (declr_height d) (some_size_height size) + 1) (omega arith) (omega arith)
+low_array (some_declr d) opening words size closing =
+    either (is_named d) (array d opening words size closing) (abs_array
+    (some_declr d) opening words size closing) (max (declr_height d) (some_size_height size) + 1)
+    (omega arith) (omega arith)
 
 -- a function is at most one higher than its declarator, if any, and its parameters
 pub low_params_of : (d : SomeDeclr) (opening : ℕ) (ps : Params) (dots : Option Dots) (closing : ℕ)
     → declr_height (with_params d
     opening ps dots closing) ≤ max (some_declr_height d) (params_height ps) + 1
 low_params_of no_declr opening ps dots closing = omega arith
-low_params_of (some_declr d) opening ps dots closing = either (is_named d) (params d opening ps dots closing) (abs_params
+low_params_of (some_declr d) opening ps dots closing =
+    either (is_named d) (params d opening ps dots closing) (abs_params
     (some_declr d) opening ps dots closing) (max (declr_height d) (params_height ps) + 1) (omega arith) (omega arith)
 
 pub low_paren : (opening : ℕ) (attrs : List Attr) (d : Declr) (closing : ℕ)
     → declr_height (with_paren opening attrs d closing) ≤
     max (attrs_height attrs) (declr_height d) + 1
-low_paren opening attrs d closing = either (is_named d) (declr_paren opening attrs d closing) (abs_paren opening attrs d closing)
+low_paren opening attrs d closing =
+    either (is_named d) (declr_paren opening attrs d closing) (abs_paren opening attrs d closing)
     (max (attrs_height attrs) (declr_height d) + 1) (omega arith) (omega arith)
 
 pub most_append : {T : Type 0} (height : T → ℕ) (xs ys : List T)
@@ -143,17 +144,3 @@ most_append height (x ∷ xs) ys = let rest = most_append height xs ys in omega 
 pub low_declarations : (xs : List Declaration) → declarations_height xs ≤ most_of declaration_height xs
 low_declarations [] = omega arith
 low_declarations (x ∷ xs) = let rest = low_declarations xs in omega arith
-
--- a declarator is at least 1 high
-pub low_declr : (d : Declr) → 1 ≤ declr_height d
-low_declr (pointer token words d) = omega arith
-low_declr (declr_name token name) = omega arith
-low_declr (declr_paren opening attrs d closing) = omega arith
-low_declr (array d opening words size closing) = omega arith
-low_declr (params d opening ps dots closing) = omega arith
-low_declr (abs_pointer token words d) = omega arith
-low_declr (abs_paren opening attrs d closing) = omega arith
-low_declr (abs_array d opening words size closing) = omega arith
-low_declr (abs_params d opening ps dots closing) = omega arith
-low_declr (identifiers d opening names closing) = omega arith
-low_declr (base_name token) = omega arith

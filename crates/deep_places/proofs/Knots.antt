@@ -5,7 +5,7 @@ use Rattle.c_tree.specs.declared.lexeme.Lexeme.{Lexeme}
 use Rattle.c_tree.specs.Unit.{Item, item_height}
 use Rattle.c_specs.specs.Laws.{WholeAreMixes, MixesGoOn}
 use Rattle.c_units.specs.HeldScopes.{file_scope}
-use Rattle.c_reading.specs.declared.kinds.Fault.TheVariants.{TooDeep}
+use Rattle.c_reading.specs.declared.kinds.FaultKind.TheVariants.{TooDeep}
 use Rattle.c_reading.specs.Parts.{Inner, never}
 use Rattle.c_reading.specs.Reading.{IsNumbered, Refusal, Read, and_then, token_at}
 use Rattle.c_reading.specs.Tokens.{is_end}
@@ -73,18 +73,17 @@ module _ (whole_are : WholeAreMixes) (goes : MixesGoOn) where
   unit_bound : (wide : Bool) (room : ℕ) (all : List Lexeme)
       → BoundAt (λ (xs : List Item). 0) 8 room 21 all (unit_of room wide all)
   unit_bound wide room all =
-      bound_bind (most_of item_height) (λ (xs : List Item). 0) 8 8 room 21 all (items_with (knot room) (room - 1) (file_scope wide) all) (λ
-      items. and_then (token_at is_end items.scopes items.rest) (λ last. alone wide items.tree last.rest))
-      (bound_weaker (most_of item_height) 8 (room - 1) 20 8 room 21 all (items_with (knot room) (room - 1) (file_scope wide) all) (omega
-      arith) (omega arith)
-      (b_items_with [] none_numbered none_tokens (suc room) (knot room) (knot_laws whole_are goes room) (knot_bounds room) (room -
-      1) (file_scope wide) all))
-      (λ items b1 e1 l1. bound_bind token_levels (λ (xs : List Item). 0) 0 (8 * length b1 + 8) room (8 * length b1 + 21) items.rest
+      bound_bind (most_of item_height) (λ (xs : List Item). 0) 8 8 room 21 all
+      (items_with (knot room) (room - 1) (file_scope wide) all) (λ items. and_then
+      (token_at is_end items.scopes items.rest) (λ last. alone wide items.tree last.rest)) (bound_weaker
+      (most_of item_height) 8 (room - 1) 20 8 room 21 all (items_with (knot room) (room - 1) (file_scope wide) all)
+      (omega arith) (omega arith) (b_items_with [] none_numbered none_tokens (suc room) (knot room)
+      (knot_laws whole_are goes room) (knot_bounds room) (room - 1) (file_scope wide) all)) (λ items b1 e1 l1.
+      bound_bind token_levels (λ (xs : List Item). 0) 0 (8 * length b1 + 8) room (8 * length b1 + 21) items.rest
       (token_at is_end items.scopes items.rest) (λ last. alone wide items.tree last.rest)
-      (bound_token is_end room (8 * length b1 + 21) items.scopes items.rest)
-      (λ last b2 e2 l2. bound_weaker (λ (xs : List Item). 0) 0 room (8 * length b2 + (8 * length b1 + 21)) (8 * length b2 + (8 *
-      length b1 + 8)) room (8 * length b2 + (8 * length b1 + 21)) last.rest (alone wide items.tree last.rest) (omega arith) (omega
-      arith)
+      (bound_token is_end room (8 * length b1 + 21) items.scopes items.rest) (λ last b2 e2 l2. bound_weaker
+      (λ (xs : List Item). 0) 0 room (8 * length b2 + (8 * length b1 + 21)) (8 * length b2 + (8 * length b1 + 8)) room
+      (8 * length b2 + (8 * length b1 + 21)) last.rest (alone wide items.tree last.rest) (omega arith) (omega arith)
       (alone_bound wide room (8 * length b2 + (8 * length b1 + 21)) items.tree last.rest)))
 
   -- Where a unit is refused for its height, the room is few levels for the tokens before that one.
@@ -94,8 +93,8 @@ module _ (whole_are : WholeAreMixes) (goes : MixesGoOn) where
     where
       by_deep : DeepAt all at room 21 → room ≤ 8 * at + 21
       by_deep h =
-          let here : slice_get all (length h.before) ≡ Some h.first = ap (λ (k : List Lexeme). slice_get k (length h.before))
-          h.parts ∙ get_behind h.before h.first h.rest in
+          let here : slice_get all (length h.before) ≡ Some h.first =
+          ap (λ (k : List Lexeme). slice_get k (length h.before)) h.parts ∙ get_behind h.before h.first h.rest in
           let its = numbered (length h.before) h.first here in
           let place = h.place in
           let deep = h.deep in
@@ -106,4 +105,5 @@ module _ (whole_are : WholeAreMixes) (goes : MixesGoOn) where
       by_result (Ok x) is b = absurd cc
       by_result (Err d) is b =
           let same = refusal_is d (TooDeep, at) is in
-          by_deep (subst (λ (n : ℕ). DeepAt all n room 21) (ap (λ (x : Refusal). x.1) same) (b.held (ap (λ (x : Refusal). x.0) same)))
+          by_deep (subst (λ (n : ℕ). DeepAt all n room 21) (ap (λ (x : Refusal). x.1) same)
+          (b.held (ap (λ (x : Refusal). x.0) same)))

@@ -8,7 +8,7 @@ use Rattle.c_syntax.specs.declared.parts.Attr.{Attr}
 use Rattle.c_syntax.specs.declared.parts.Assert.{Assert}
 use Rattle.c_syntax.specs.declared.parts.PointerWord.{PointerWord}
 use Rattle.c_syntax.specs.declared.parts.PointerWord.TheVariants as pointer_words
-use Rattle.c_reading.specs.declared.kinds.Fault.TheVariants.{Unexpected}
+use Rattle.c_reading.specs.declared.kinds.FaultKind.TheVariants.{Unexpected}
 use Rattle.c_reading.specs.declared.kinds.Bracket.{Bracket}
 use Rattle.c_reading.specs.declared.kinds.Bracket.TheVariants.{Paren}
 use Rattle.c_reading.specs.declared.kinds.Inside.{Inside}
@@ -41,9 +41,11 @@ bracket_step_bound room state s ts c high low = by_brackets state.brackets
         (c + 0) (t ∷ ts) (bracket_by i b bs t s ts)
     by_inside (Opens other) b bs t ts = record { held = record { before = t ∷ []; parts = refl; low = omega arith } }
     by_inside (Closes other) b bs t ts =
-        bound_if (λ (o : Opened). 0) c room (c + 0) (t ∷ ts) (is_same other b) (ends (record { brackets = bs; last = t.at }) s ts)
+        bound_if (λ (o : Opened). 0) c room (c + 0) (t ∷ ts) (is_same other b)
+        (ends (record { brackets = bs; last = t.at }) s ts)
         (refuses Unexpected (t ∷ ts))
-        (λ is. record { held = record { before = t ∷ []; parts = refl; low = omega arith } }) (λ is. record { held = λ e. absurd cc })
+        (λ is. record { held = record { before = t ∷ []; parts = refl; low = omega arith } })
+        (λ is. record { held = λ e. absurd cc })
     by_inside Plain b bs t ts = record { held = record { before = t ∷ []; parts = refl; low = omega arith } }
     by_inside Stops b bs t ts = record { held = λ e. absurd cc }
 
@@ -61,14 +63,15 @@ pub b_group_at : (room : ℕ) (s : HeldScopes) (ts : List Lexeme)
     → BoundAt (no_levels {A = Group}) 0 room 0 ts (group_at s ts)
 unfolding group_at
 b_group_at room s ts =
-    bound_bind token_levels (no_levels {A = Group}) 0 0 room 0 ts (token_at is_open_paren s ts) (λ opening. and_then (run
-    bracket_turn (record { brackets = Paren ∷ []; last = opening.tree }) opening.scopes opening.rest) (λ inside. ends (record {
+    bound_bind token_levels (no_levels {A = Group}) 0 0 room 0 ts (token_at is_open_paren s ts) (λ opening.
+    and_then (run bracket_turn (record { brackets = Paren ∷ []; last = opening.tree }) opening.scopes opening.rest)
+    (λ inside. ends (record {
       first = opening.tree;
       last = inside.tree.last;
-    }) inside.scopes inside.rest))
-    (bound_token is_open_paren room 0 s ts) (λ opening b1 e1 l1.
-    bound_bind (λ (o : Opened). 0) (no_levels {A = Group}) 0 (8 * length b1 + 0) room (8 * length b1 + 0) opening.rest (run
-    bracket_turn (record { brackets = Paren ∷ []; last = opening.tree }) opening.scopes opening.rest) (λ inside. ends (record {
+    }) inside.scopes inside.rest)) (bound_token is_open_paren room 0 s ts) (λ opening b1 e1 l1. bound_bind
+    (λ (o : Opened). 0) (no_levels {A = Group}) 0 (8 * length b1 + 0) room (8 * length b1 + 0) opening.rest
+    (run bracket_turn (record { brackets = Paren ∷ []; last = opening.tree }) opening.scopes opening.rest)
+    (λ inside. ends (record {
       first = opening.tree;
       last = inside.tree.last;
     }) inside.scopes inside.rest)
@@ -80,46 +83,53 @@ b_group_at room s ts =
     (bound_run bracket_turn bracket_shrinks (λ (o : Opened). 0) room 0 0 (bracket_step_bound room) (record {
       brackets = Paren ∷ [];
       last = opening.tree;
-    }) opening.scopes opening.rest 0 (omega arith) (omega arith)))
-    (λ inside b2 e2 l2. bound_ends (no_levels {A = Group}) (8 * length b2 + (8 * length b1 + 0)) room (8 * length b2 + (8 * length
-    b1 + 0)) (record { first = opening.tree; last = inside.tree.last }) inside.scopes inside.rest (omega arith)))
+    }) opening.scopes opening.rest 0 (omega arith) (omega arith))) (λ inside b2 e2 l2.
+    bound_ends (no_levels {A = Group}) (8 * length b2 + (8 * length b1 + 0)) room (8 * length b2 + (8 * length b1 + 0))
+    (record { first = opening.tree; last = inside.tree.last }) inside.scopes inside.rest (omega arith)))
 
 pub b_attr_at : (room : ℕ) (s : HeldScopes) (ts : List Lexeme)
     → BoundAt (token_levels {A = Attr}) (0) room (0) ts (attr_at s ts)
 unfolding attr_at
 b_attr_at room s ts =
-    bound_bind token_levels _ (0) _ _ _ _ _ _ (bound_token is_attribute _ _ _ _) (λ keyword b1 e2 l3. bound_bind (no_levels {A =
-    Group}) _ (0) _ _ _ _ _ _ (bound_weaker _ (0) room (0) _ _ _ _ _ (omega arith) (omega arith) (b_group_at room _ _)) (λ group
-    b4 e5 l6. bound_ends _ _ _ _ _ _ _ (omega arith)))
+    bound_bind token_levels _ (0) _ _ _ _ _ _ (bound_token is_attribute _ _ _ _) (λ keyword b1 e2 l3.
+    bound_bind (no_levels {A =
+    Group}) _ (0) _ _ _ _ _ _ (bound_weaker _ (0) room (0) _ _ _ _ _ (omega arith) (omega arith) (b_group_at room _ _))
+    (λ group b4 e5 l6. bound_ends _ _ _ _ _ _ _ (omega arith)))
 
 pub b_align_at : (room : ℕ) (s : HeldScopes) (ts : List Lexeme)
     → BoundAt (token_levels {A = Attr}) (0) room (0) ts (align_at s ts)
 unfolding align_at
 b_align_at room s ts =
-    bound_bind token_levels _ (0) _ _ _ _ _ _ (bound_take _ _ _ _) (λ keyword b1 e2 l3. bound_bind (no_levels {A = Group}) _ (0) _ _ _ _ _ _
-    (bound_weaker _ (0) room (0) _ _ _ _ _ (omega arith) (omega arith) (b_group_at room _ _)) (λ group b4 e5 l6. bound_ends _ _ _ _ _ _ _ (omega arith)))
+    bound_bind token_levels _ (0) _ _ _ _ _ _ (bound_take _ _ _ _) (λ keyword b1 e2 l3.
+    bound_bind (no_levels {A = Group}) _ (0) _ _ _ _ _ _
+    (bound_weaker _ (0) room (0) _ _ _ _ _ (omega arith) (omega arith) (b_group_at room _ _))
+    (λ group b4 e5 l6. bound_ends _ _ _ _ _ _ _ (omega arith)))
 
 pub b_assert_at : (room : ℕ) (s : HeldScopes) (ts : List Lexeme)
     → BoundAt (no_levels {A = Assert}) (0) room (0) ts (assert_at s ts)
 unfolding assert_at
 b_assert_at room s ts =
-    bound_bind token_levels _ (0) _ _ _ _ _ _ (bound_token is_static_assert _ _ _ _) (λ keyword b7 e8 l9. bound_bind (no_levels {A =
-    Group}) _ (0) _ _ _ _ _ _ (bound_weaker _ (0) room (0) _ _ _ _ _ (omega arith) (omega arith) (b_group_at room _ _)) (λ group
-    b10 e11 l12. bound_bind token_levels _ (0) _ _ _ _ _ _ (bound_token is_semicolon _ _ _ _) (λ semi b13 e14 l15. bound_ends _
-    _ _ _ _ _ _ (omega arith))))
+    bound_bind token_levels _ (0) _ _ _ _ _ _ (bound_token is_static_assert _ _ _ _) (λ keyword b7 e8 l9.
+    bound_bind (no_levels {A =
+    Group}) _ (0) _ _ _ _ _ _ (bound_weaker _ (0) room (0) _ _ _ _ _ (omega arith) (omega arith) (b_group_at room _ _))
+    (λ group b10 e11 l12. bound_bind token_levels _ (0) _ _ _ _ _ _ (bound_token is_semicolon _ _ _ _)
+    (λ semi b13 e14 l15. bound_ends _ _ _ _ _ _ _ (omega arith))))
 
 fewer_levels : {A : Type 0} (room : ℕ) (ts : List Lexeme) (r : Read A) → BoundAt token_levels 0 room 0 ts r
     → BoundAt no_levels 0
     room 0 ts r
-fewer_levels room ts (Ok x) b = record { held = record { before = b.held.before; parts = b.held.parts; low = omega arith } }
+fewer_levels room ts (Ok x) b =
+    record { held = record { before = b.held.before; parts = b.held.parts; low = omega arith } }
 fewer_levels room ts (Err e) b = record { held = b.held }
 
 -- Rows.
 
 -- a row of tokens that each make something has no height, and is never refused for the height
-made_row : {A : Type 0} (of : TokenKind → Option (ℕ → A)) (begins : TokenKind → Bool) (room : ℕ) (s : HeldScopes) (ts : List Lexeme)
+made_row : {A : Type 0} (of : TokenKind → Option (ℕ → A)) (begins : TokenKind → Bool) (room : ℕ) (s : HeldScopes)
+    (ts : List Lexeme)
     → BoundAt no_levels 0 room 0 ts (repeated begins (made_at of) s ts)
-made_row {A} of begins room s ts = forget (repeated begins (made_at of) s ts) (bound_repeated begins (made_at of) no_levels 0 room 0
+made_row {A} of begins room s ts =
+    forget (repeated begins (made_at of) s ts) (bound_repeated begins (made_at of) no_levels 0 room 0
     (made_shrinks of) (omega arith) (λ s ts is. bound_made of room s ts) s ts)
   where
     forget : (r : Read (List A)) → BoundAt (most_of no_levels) 0 room 0 ts r → BoundAt no_levels 0 room 0 ts r
@@ -144,7 +154,8 @@ take_shrinks s ts x e = let one = take_falls s ts x e in omega arith
 
 pub b_texts_at : (room : ℕ) (s : HeldScopes) (ts : List Lexeme) → BoundAt no_levels 0 room 0 ts (texts_at s ts)
 unfolding texts_at
-b_texts_at room s ts = forget (repeated is_text take_one s ts) (bound_count is_text take_one room 0 take_shrinks (λ s ts is.
+b_texts_at room s ts =
+    forget (repeated is_text take_one s ts) (bound_count is_text take_one room 0 take_shrinks (λ s ts is.
     bound_take room 0 s ts) s ts)
   where
     forget : (r : Read (List ℕ)) → BoundAt (λ (xs : List ℕ). length xs) 0 room 0 ts r → BoundAt no_levels 0 room 0 ts r
@@ -162,7 +173,8 @@ pub b_extensions_at : (room : ℕ) (s : HeldScopes) (ts : List Lexeme) → Bound
 unfolding extensions_at
 b_extensions_at room s ts =
     bound_count is_extension (extension_reader room) room 1 (extension_shrinks room)
-    (λ s ts is. bound_fits token_levels 0 room 1 2 room ts (take_one s ts) (known_by is_extension refl (kind_at ts) is) (λ less.
+    (λ s ts is.
+    bound_fits token_levels 0 room 1 2 room ts (take_one s ts) (known_by is_extension refl (kind_at ts) is) (λ less.
     omega arith) (λ enough. bound_take room 1 s ts)) s ts
 
 abbrev attr_reader : ℕ → Reader Attr
@@ -186,12 +198,11 @@ attrs_low (x ∷ xs) = omega arith
 pub b_attrs_at : (room : ℕ) (s : HeldScopes) (ts : List Lexeme) → BoundAt attrs_height 1 room 1 ts (attrs_at room s ts)
 unfolding attrs_at
 b_attrs_at room s ts =
-    forget (repeated is_attribute (attr_reader room) s ts) (bound_repeated is_attribute (attr_reader room) no_levels 0 room 1
-    (attr_reader_shrinks room) (omega arith)
-    (λ s ts is. bound_fits no_levels 0 room 1 2 room ts (attr_at s ts) (known_by is_attribute refl (kind_at ts) is) (λ less. omega
-    arith) (λ enough.
-    bound_weaker no_levels 0 room 0 0 room 1 ts (attr_at s ts) (omega arith) (omega arith) (fewer_levels room ts (attr_at s ts)
-    (b_attr_at room s ts)))) s ts)
+    forget (repeated is_attribute (attr_reader room) s ts)
+    (bound_repeated is_attribute (attr_reader room) no_levels 0 room 1 (attr_reader_shrinks room) (omega arith)
+    (λ s ts is. bound_fits no_levels 0 room 1 2 room ts (attr_at s ts) (known_by is_attribute refl (kind_at ts) is)
+    (λ less. omega arith) (λ enough. bound_weaker no_levels 0 room 0 0 room 1 ts (attr_at s ts) (omega arith)
+    (omega arith) (fewer_levels room ts (attr_at s ts) (b_attr_at room s ts)))) s ts)
   where
     forget : (r : Read (List Attr)) → BoundAt (most_of no_levels) 0 room 1 ts r → BoundAt attrs_height 1 room 1 ts r
     forget (Ok x) b = record {
@@ -214,29 +225,30 @@ pointer_word_bound : (room : ℕ) (s : HeldScopes) (ts : List Lexeme)
     → BoundAt no_levels 0 room 1 ts (pointer_word_at room s ts)
 unfolding pointer_word_at
 pointer_word_bound room s ts =
-    bound_if no_levels 0 room 1 ts (is_attribute (kind_at ts)) (fits 2 room ts (and_then (attr_at s ts) (λ attr. ends
-    (pointer_words.Attr attr.tree) attr.scopes attr.rest)))
+    bound_if no_levels 0 room 1 ts (is_attribute (kind_at ts))
+    (fits 2 room ts (and_then (attr_at s ts) (λ attr. ends (pointer_words.Attr attr.tree) attr.scopes attr.rest)))
     (and_then (made_at qual_of s ts) (λ qual. ends (pointer_words.Qual qual.tree) qual.scopes qual.rest))
-    (λ is. bound_fits no_levels 0 room 1 2 room ts (and_then (attr_at s ts) (λ attr. ends (pointer_words.Attr attr.tree) attr.scopes
-    attr.rest)) (known_by is_attribute refl (kind_at ts) is) (λ less. omega arith) (λ enough.
-    bound_bind no_levels (no_levels {A = PointerWord}) 0 0 room 1 ts (attr_at s ts) (λ attr. ends (pointer_words.Attr attr.tree)
-    attr.scopes attr.rest) (bound_weaker no_levels 0 room 0 0 room 1 ts (attr_at s ts) (omega arith) (omega arith) (fewer_levels
-    room ts (attr_at s ts) (b_attr_at room s ts)))
-    (λ attr b1 e1 l1. bound_ends (no_levels {A = PointerWord}) (8 * length b1 + 0) room (8 * length b1 + 1) (pointer_words.Attr
-    attr.tree) attr.scopes attr.rest (omega arith))))
-    (λ is. bound_bind no_levels (no_levels {A = PointerWord}) 0 0 room 1 ts (made_at qual_of s ts) (λ qual. ends (pointer_words.Qual
-    qual.tree) qual.scopes qual.rest) (bound_weaker no_levels 0 room 0 0 room 1 ts (made_at qual_of s ts) (omega arith) (omega
-    arith) (bound_made qual_of room s ts))
-    (λ qual b1 e1 l1. bound_ends (no_levels {A = PointerWord}) (8 * length b1 + 0) room (8 * length b1 + 1) (pointer_words.Qual
-    qual.tree) qual.scopes qual.rest (omega arith)))
+    (λ is. bound_fits no_levels 0 room 1 2 room ts (and_then (attr_at s ts)
+    (λ attr. ends (pointer_words.Attr attr.tree) attr.scopes attr.rest)) (known_by is_attribute refl (kind_at ts) is)
+    (λ less. omega arith) (λ enough. bound_bind no_levels (no_levels {A = PointerWord}) 0 0 room 1 ts (attr_at s ts)
+    (λ attr. ends (pointer_words.Attr attr.tree) attr.scopes attr.rest) (bound_weaker no_levels 0 room 0 0 room 1 ts
+    (attr_at s ts) (omega arith) (omega arith) (fewer_levels room ts (attr_at s ts) (b_attr_at room s ts)))
+    (λ attr b1 e1 l1. bound_ends (no_levels {A = PointerWord}) (8 * length b1 + 0) room (8 * length b1 + 1)
+    (pointer_words.Attr attr.tree) attr.scopes attr.rest (omega arith))))
+    (λ is. bound_bind no_levels (no_levels {A = PointerWord}) 0 0 room 1 ts (made_at qual_of s ts)
+    (λ qual. ends (pointer_words.Qual qual.tree) qual.scopes qual.rest) (bound_weaker no_levels 0 room 0 0 room 1 ts
+    (made_at qual_of s ts) (omega arith) (omega arith) (bound_made qual_of room s ts)) (λ qual b1 e1 l1.
+    bound_ends (no_levels {A = PointerWord}) (8 * length b1 + 0) room (8 * length b1 + 1)
+    (pointer_words.Qual qual.tree) qual.scopes qual.rest (omega arith)))
 
 pub b_pointer_words_at : (room : ℕ) (s : HeldScopes) (ts : List Lexeme)
     → BoundAt pointer_words_height 1 room 1 ts (pointer_words_at
     room s ts)
 unfolding pointer_words_at
 b_pointer_words_at room s ts =
-    forget (repeated begins_pointer_word (pointer_word_at room) s ts) (bound_repeated begins_pointer_word (pointer_word_at room)
-    no_levels 0 room 1 (pointer_word_shrinks [] room) (omega arith) (λ s ts is. pointer_word_bound room s ts) s ts)
+    forget (repeated begins_pointer_word (pointer_word_at room) s ts)
+    (bound_repeated begins_pointer_word (pointer_word_at room) no_levels 0 room 1 (pointer_word_shrinks [] room)
+    (omega arith) (λ s ts is. pointer_word_bound room s ts) s ts)
   where
     forget : (r : Read (List PointerWord)) → BoundAt (most_of no_levels) 0 room 1 ts r
         → BoundAt pointer_words_height 1 room 1 ts r
@@ -263,16 +275,19 @@ pub b_names_list : (name : Reader Identifier) → Shrinks name
     (room : ℕ) (s : HeldScopes) (ts : List Lexeme) → BoundAt no_levels 0 room 0 ts (names_list name s ts)
 unfolding names_list
 b_names_list name shrinks bound room s ts =
-    bound_bind (list_height {E = ⊥} no_levels) _ (0) _ _ _ _ _ _ (bound_listed name (next_name name) no_levels 0 room 0 (λ comma. next_falls name shrinks comma) (omega arith) s ts
+    bound_bind (list_height {E = ⊥} no_levels) _ (0) _ _ _ _ _ _
+    (bound_listed name (next_name name) no_levels 0 room 0 (λ comma. next_falls name shrinks comma) (omega arith) s ts
     (fewer_levels room ts (name s ts) (bound room s ts))
-    (λ comma s9 ts9. bound_bind token_levels _ (0) _ _ _ _ _ _ (bound room s9 ts9) (λ x b1 e1 l1. bound_ends _ _ _ _ _ _ _ (omega arith))))
+    (λ comma s9 ts9. bound_bind token_levels _ (0) _ _ _ _ _ _ (bound room s9 ts9)
+    (λ x b1 e1 l1. bound_ends _ _ _ _ _ _ _ (omega arith))))
     (λ xs b2 e2 l2. bound_ends _ _ _ _ _ _ _ (omega arith))
 
 -- identifiers of a list, which are no names of typedefs
 pub bound_identifier : (room : ℕ) (s : HeldScopes) (ts : List Lexeme)
     → BoundAt token_levels 0 room 0 ts (identifier_at s ts)
 bound_identifier room s ts =
-    bound_if token_levels 0 room 0 ts (is_identifier s (spelled_name (kind_at ts))) (name_at s ts) (refuses Unexpected ts) (λ is. bound_name room 0 s ts) (λ is. record { held = λ e. absurd cc })
+    bound_if token_levels 0 room 0 ts (is_identifier s (spelled_name (kind_at ts))) (name_at s ts)
+    (refuses Unexpected ts) (λ is. bound_name room 0 s ts) (λ is. record { held = λ e. absurd cc })
 
 pub name_shrinks : Shrinks name_at
 name_shrinks s ts x e = let one = name_falls s ts x e in omega arith

@@ -1,9 +1,8 @@
 -- How many tokens stand before a refusal for the height, and how high a tree is for its tokens: eight levels a token,
--- and a few
--- more.
+-- and a few more.
 use Rattle.std.specs.Prelude.{◌≡◌, ℕ, ◌+◌, ◌*◌, ◌≤◌, max, List, [], ◌∷◌, ◌++◌, length, Bool, Option, Some, None, Ok, Err}
 use Rattle.c_tree.specs.declared.lexeme.Lexeme.{Lexeme}
-use Rattle.c_reading.specs.declared.kinds.Fault.TheVariants.{TooDeep}
+use Rattle.c_reading.specs.declared.kinds.FaultKind.TheVariants.{TooDeep}
 use Rattle.c_tree.specs.Tree.{SpecWords}
 use Rattle.c_tree.specs.Height.{attrs_height, expr_height, specs_height, some_declr_height, declr_height, init_list_height, block_height, stmt_height, mem_declr_height, some_value_height, desigs_height, init_height, label_height, some_init_height}
 use Rattle.c_units.specs.HeldScopes.{HeldScopes}
@@ -80,12 +79,15 @@ list_item_height x = max (desigs_height x.desigs) (init_height x.init) + 1
 
 -- the height of a declarator of a declaration, with its attributes and initialiser
 abbrev pub declr_item_height : DeclrItem → ℕ
-declr_item_height x = max (attrs_height x.before) (max (declr_height x.declr) (max (label_height x.label) (max (attrs_height x.attrs) (some_init_height x.init)))) + 1
+declr_item_height x =
+    max (attrs_height x.before)
+    (max (declr_height x.declr) (max (label_height x.label) (max (attrs_height x.attrs) (some_init_height x.init)))) + 1
 
 -- what the readers of the parts inside owe
 pub record InnerBounds (inner : Inner) : Type 0 where
   pub expr : (reach : Reach) (begun : Begun) (room : ℕ) (s : HeldScopes) (ts : List Lexeme)
-      → BoundAt expr_height (1 + begun_levels begun) room (10 + begun_levels begun) ts (inner.expr reach begun room s ts)
+      → BoundAt expr_height (1 + begun_levels begun) room (10 + begun_levels begun) ts
+      (inner.expr reach begun room s ts)
   pub type_name : (room : ℕ) (s : HeldScopes) (ts : List Lexeme)
       → BoundAt type_name_height 2 room 12 ts (inner.type_name room s ts)
   pub specs : (role : Role) (words : SpecWords) (room : ℕ) (s : HeldScopes) (ts : List Lexeme)

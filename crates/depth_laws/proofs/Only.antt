@@ -7,8 +7,8 @@ use Rattle.c_tree.specs.declared.lexeme.Lexeme.{Lexeme}
 use Rattle.c_tree.specs.Unit.{Item}
 use Rattle.c_specs.specs.Laws.{WholeAreMixes, MixesGoOn}
 use Rattle.c_units.specs.Units.{numbered}
-use Rattle.c_reading.specs.declared.kinds.Fault.{Fault}
-use Rattle.c_reading.specs.declared.kinds.Fault.TheVariants.{TooDeep}
+use Rattle.c_reading.specs.declared.kinds.FaultKind.{FaultKind}
+use Rattle.c_reading.specs.declared.kinds.FaultKind.TheVariants.{TooDeep}
 use Rattle.c_reading.specs.Reading.{Refusal, Found, Read, IsNumbered, number_at, behind_first}
 use Rattle.c_reading.specs.Knot.{most}
 use Rattle.c_reading.specs.UnitLaws.{UnitIsWellFormed, WellFormedIsRead}
@@ -50,23 +50,23 @@ number_behind : (all : List Lexeme) → IsNumbered all → (b : List Lexeme) (t 
     → all ≡ b ++ (t ∷ r) → (c : List Lexeme) (u : Lexeme) (v : List Lexeme) → r ≡ c ++ (u ∷ v) → t.at < u.at
 number_behind all is b t r e c u v f =
     let here = number_of all is b t r e in
-    let there = number_of all is (b ++ (t ∷ c)) u v (e ∙ ap (λ (r : List Lexeme). b ++ (t ∷ r)) f ∙ sym (append_assoc b (t ∷ c) (u ∷ v))) in
+    let there = number_of all is (b ++ (t ∷ c)) u v
+    (e ∙ ap (λ (r : List Lexeme). b ++ (t ∷ r)) f ∙ sym (append_assoc b (t ∷ c) (u ∷ v))) in
     let far = long b t c in
     omega (arith, here, there, far)
-
-same_refusal : (a b : Refusal) → refused a ≡ refused b → a ≡ b
-same_refusal a b e = cc
 
 place_is : (a b : ℕ) → ◌≡◌ {A = Refusal} (TooDeep, a) (TooDeep, b) → a ≡ b
 place_is a b e = ap (λ (d : Refusal). d.1) e
 
 pair_is : (d : Refusal) → d.0 ≡ TooDeep → d ≡ (TooDeep, d.1)
-pair_is (fault, at) is = ap (λ (fault : Fault). (fault, at)) is
+pair_is (fault, at) is = ap (λ (fault : FaultKind). (fault, at)) is
 
 not_both : (r : Read (List Item)) (e : Refusal) (x : Found (List Item)) → r ≡ Err e → r ≡ Ok x → ⊥
 not_both r e x is also = absurd cc
 
-module _ (formed : UnitIsWellFormed) (read_back : WellFormedIsRead) (whole_are : WholeAreMixes) (goes : MixesGoOn) (first : PlaceIsFirst) (trees : UnitsBeginAsTrees) (late : TooDeepIsLate) (passes : WithMoreRoomItPasses) (sound : AnyUnitIsWellFormed) where
+module _ (formed : UnitIsWellFormed) (read_back : WellFormedIsRead) (whole_are : WholeAreMixes) (goes : MixesGoOn)
+    (first : PlaceIsFirst) (trees : UnitsBeginAsTrees) (late : TooDeepIsLate) (passes : WithMoreRoomItPasses)
+    (sound : AnyUnitIsWellFormed) where
   -- what is read with some room begins with its first tokens
   begins : (dialect : Bool) (room : ℕ) → 1 ≤ room → (front more : List TokenKind) (y : Found (List Item))
       → unit_of room dialect (numbered (front ++ more)) ≡ Ok y → BeginsTree front
@@ -76,11 +76,13 @@ module _ (formed : UnitIsWellFormed) (read_back : WellFormedIsRead) (whole_are :
         record {
           behind = more;
           spelled = w.tokens;
-          derived = λ k d below. item_derives whole_are goes (numbered (front ++ more)) (slice_index_or y.tree k d) (w.parts k d below);
+          derived = λ k d below.
+              item_derives whole_are goes (numbered (front ++ more)) (slice_index_or y.tree k d) (w.parts k d below);
         },
       )
 
-  module _ (dialect : Bool) (tokens : List TokenKind) (at : ℕ) (ended : IsEnded tokens) (e : unit_of most dialect (numbered tokens) ≡ Err (TooDeep, at)) where
+  module _ (dialect : Bool) (tokens : List TokenKind) (at : ℕ) (ended : IsEnded tokens)
+      (e : unit_of most dialect (numbered tokens) ≡ Err (TooDeep, at)) where
     abbrev all : List Lexeme
     all = numbered tokens
 
@@ -93,9 +95,10 @@ module _ (formed : UnitIsWellFormed) (read_back : WellFormedIsRead) (whole_are :
     place : Placed dialect most tokens TooDeep at
     place = placed dialect most (items_of formed read_back whole_are goes most (omega arith)) tokens TooDeep at ended e
 
-    wide_place : (fault : Fault) (n : ℕ) → unit_of wide dialect all ≡ Err (fault, n)
+    wide_place : (fault : FaultKind) (n : ℕ) → unit_of wide dialect all ≡ Err (fault, n)
         → Placed dialect wide tokens fault n
-    wide_place fault n is = placed dialect wide (items_of formed read_back whole_are goes wide (omega arith)) tokens fault n ended is
+    wide_place fault n is =
+        placed dialect wide (items_of formed read_back whole_are goes wide (omega arith)) tokens fault n ended is
 
     -- with so much room nothing is too deep
     none_deep : (n : ℕ) → unit_of wide dialect all ≡ Err (TooDeep, n) → ⊥
@@ -105,17 +108,22 @@ module _ (formed : UnitIsWellFormed) (read_back : WellFormedIsRead) (whole_are :
         absurd (omega (arith, l, there))
 
     -- the first token is not refused, since something begins with it
-    not_first : (fault : Fault) → unit_of wide dialect all ≡ Err (fault, 0) → ⊥
+    not_first : (fault : FaultKind) → unit_of wide dialect all ≡ Err (fault, 0) → ⊥
     not_first fault is =
         let p = wide_place fault 0 is in
         let b = place.begun in
         let rest : List TokenKind = take (at - 1) (drop 1 tokens) in
         let whole : at ≡ 1 + (at - 1) = (let f = fifty in omega (arith, f)) in
-        let parts : take at tokens ≡ take 1 tokens ++ rest = ap (λ (n : ℕ). take n tokens) whole ∙ take-add 1 (at - 1) tokens in
-        let same : take at tokens ++ b.0 ≡ take 1 tokens ++ (rest ++ b.0) = ap (λ (ks : List TokenKind). ks ++ b.0) parts ∙ append_assoc (take 1 tokens) rest b.0 in
-        let read = subst (λ (r : Read (List Item)). Passes (numbered (take at tokens ++ b.0)) r (unit_of wide dialect (numbered (take at tokens ++ b.0)))) b.2 (passes most wide (omega arith) (omega arith) dialect (numbered (take at tokens ++ b.0))) in
+        let parts : take at tokens ≡ take 1 tokens ++ rest =
+        ap (λ (n : ℕ). take n tokens) whole ∙ take-add 1 (at - 1) tokens in
+        let same : take at tokens ++ b.0 ≡ take 1 tokens ++ (rest ++ b.0) =
+        ap (λ (ks : List TokenKind). ks ++ b.0) parts ∙ append_assoc (take 1 tokens) rest b.0 in
+        let read = subst (λ (r : Read (List Item)). Passes (numbered (take at tokens ++ b.0)) r
+        (unit_of wide dialect (numbered (take at tokens ++ b.0)))) b.2
+        (passes most wide (omega arith) (omega arith) dialect (numbered (take at tokens ++ b.0))) in
         let a = p.alike (rest ++ b.0) in
-        not_both (unit_of wide dialect (numbered (take 1 tokens ++ (rest ++ b.0)))) (fault, a.0) b.1 a.1 (sym (ap (λ (ks : List TokenKind). unit_of wide dialect (numbered ks)) same) ∙ read)
+        not_both (unit_of wide dialect (numbered (take 1 tokens ++ (rest ++ b.0)))) (fault, a.0) b.1 a.1
+        (sym (ap (λ (ks : List TokenKind). unit_of wide dialect (numbered ks)) same) ∙ read)
 
     -- units begin with what stands before a token behind it
     behind_it : (d : Refusal) → unit_of wide dialect all ≡ refused d → at < d.1 → BeginsTree (take (at + 1) tokens)
@@ -124,9 +132,12 @@ module _ (formed : UnitIsWellFormed) (read_back : WellFormedIsRead) (whole_are :
         let b = p.begun in
         let m : ℕ = d.1 - (at + 1) in
         let whole : d.1 ≡ (at + 1) + m = omega (arith, more) in
-        let parts : take d.1 tokens ≡ take (at + 1) tokens ++ take m (drop (at + 1) tokens) = ap (λ (n : ℕ). take n tokens) whole ∙ take-add (at + 1) m tokens in
-        let same = ap (λ (ks : List TokenKind). ks ++ b.0) parts ∙ append_assoc (take (at + 1) tokens) (take m (drop (at + 1) tokens)) b.0 in
-        begins dialect wide (omega arith) (take (at + 1) tokens) (take m (drop (at + 1) tokens) ++ b.0) b.1 (sym (ap (λ (ks : List TokenKind). unit_of wide dialect (numbered ks)) same) ∙ b.2)
+        let parts : take d.1 tokens ≡ take (at + 1) tokens ++ take m (drop (at + 1) tokens) =
+        ap (λ (n : ℕ). take n tokens) whole ∙ take-add (at + 1) m tokens in
+        let same = ap (λ (ks : List TokenKind). ks ++ b.0) parts
+        ∙ append_assoc (take (at + 1) tokens) (take m (drop (at + 1) tokens)) b.0 in
+        begins dialect wide (omega arith) (take (at + 1) tokens) (take m (drop (at + 1) tokens) ++ b.0) b.1
+        (sym (ap (λ (ks : List TokenKind). unit_of wide dialect (numbered ks)) same) ∙ b.2)
 
     among : (d : Refusal) → unit_of wide dialect all ≡ refused d → (here : List Lexeme) → Leaves all here
         → at ≡ number_at here → (us : List Lexeme) → Leaves (behind_first here) us → d.1 ≡ number_at us
@@ -138,17 +149,22 @@ module _ (formed : UnitIsWellFormed) (read_back : WellFormedIsRead) (whole_are :
         behind_it d is (omega (arith, far, there, place_of))
 
     tree : BeginsTree (take (at + 1) tokens)
-    tree = by_wide (unit_of wide dialect all) refl (subst (λ (r : Read (List Item)). Passes all r (unit_of wide dialect all)) e (passes most wide (omega arith) (omega arith) dialect all))
+    tree = by_wide (unit_of wide dialect all) refl
+        (subst (λ (r : Read (List Item)). Passes all r (unit_of wide dialect all)) e
+        (passes most wide (omega arith) (omega arith) dialect all))
       where
         by_wide : (r : Read (List Item)) → unit_of wide dialect all ≡ r → Passes all (refused (TooDeep, at)) r
             → BeginsTree (take (at + 1) tokens)
-        by_wide (Ok y) is p = begins dialect wide (omega arith) (take (at + 1) tokens) (drop (at + 1) tokens) y (ap (λ (ks : List TokenKind). unit_of wide dialect (numbered ks)) (cut_here (at + 1) tokens) ∙ is)
+        by_wide (Ok y) is p =
+            begins dialect wide (omega arith) (take (at + 1) tokens) (drop (at + 1) tokens) y
+            (ap (λ (ks : List TokenKind). unit_of wide dialect (numbered ks)) (cut_here (at + 1) tokens) ∙ is)
         by_wide (Err d) is (inl same) = absurd (none_deep at (is ∙ same))
         by_wide (Err d) is (inr deep) = by_late deep.late
           where
             by_late : Late (behind_first deep.at) (refused d) → BeginsTree (take (at + 1) tokens)
             by_late (inl again) = absurd (none_deep d.1 (is ∙ ap refused (pair_is d again)))
-            by_late (inr inside) = among d is deep.at deep.left (place_is at (number_at deep.at) deep.is) inside.0 inside.1.0 inside.1.1
+            by_late (inr inside) =
+                among d is deep.at deep.left (place_is at (number_at deep.at) deep.is) inside.0 inside.1.0 inside.1.1
 
   pub only_the_height : OnlyTheHeight
   only_the_height dialect tokens at ended e =

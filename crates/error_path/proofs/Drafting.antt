@@ -48,16 +48,19 @@ module _ (sys : System) (lattice : ℕ) (rows : List Summary) where
     pub empty_draft_of : (draft : Draft) (pair : Pair) → draft.pair ≡ pair → draft.at ≡ pair.to → draft.steps.items ≡ []
         → HasPair rows pair.from pair.to → IsDraft sys lattice rows subs draft
     empty_draft_of draft pair is at none joined =
-        empty_draft draft (at ∙ ap (λ (p : Pair). p.to) (sym is)) none (subst (λ (p : Pair). HasPair rows p.from p.to) (sym is) joined)
+        empty_draft draft (at ∙ ap (λ (p : Pair). p.to) (sym is)) none
+        (subst (λ (p : Pair). HasPair rows p.from p.to) (sym is) joined)
 
     -- one that has the same steps
     pub same_draft : (old new : Draft) → new.pair ≡ old.pair → new.at ≡ old.at → new.steps.items ≡ old.steps.items
         → IsDraft sys lattice rows subs old → IsDraft sys lattice rows subs new
     same_draft old new pair at steps draft = record {
       whole = subst (λ (p : Pair). HasPair rows p.from p.to) (sym pair) draft.whole;
-      joined = subst (λ (p : Pair). HasPair rows p.from new.at) (sym pair) (subst (λ v. HasPair rows old.pair.from v) (sym at) draft.joined);
+      joined = subst (λ (p : Pair). HasPair rows p.from new.at) (sym pair)
+          (subst (λ v. HasPair rows old.pair.from v) (sym at) draft.joined);
       inside =
-          let Of : Pair → Type 0 = λ p. (f : ℕ) → owner_of sys p.from ≡ Function f → Inside sys lattice subs f new.at p.to (reverse new.steps.items) in
+          let Of : Pair → Type 0 = λ p. (f : ℕ) → owner_of sys p.from ≡ Function f
+          → Inside sys lattice subs f new.at p.to (reverse new.steps.items) in
           subst Of (sym pair) (λ f o.
           let At : ℕ → Type 0 = λ v. Inside sys lattice subs f v old.pair.to (reverse new.steps.items) in
           let Steps : List PathStep → Type 0 = λ xs. Inside sys lattice subs f old.at old.pair.to (reverse xs) in
@@ -72,12 +75,14 @@ module _ (sys : System) (lattice : ℕ) (rows : List Summary) where
       whole = subst (λ (p : Pair). HasPair rows p.from p.to) (sym pair) draft.whole;
       joined = subst (λ (p : Pair). HasPair rows p.from new.at) (sym pair) joined;
       inside =
-          let Of : Pair → Type 0 = λ p. (f : ℕ) → owner_of sys p.from ≡ Function f → Inside sys lattice subs f new.at p.to (reverse new.steps.items) in
+          let Of : Pair → Type 0 = λ p. (f : ℕ) → owner_of sys p.from ≡ Function f
+          → Inside sys lattice subs f new.at p.to (reverse new.steps.items) in
           subst Of (sym pair) (λ f o.
           let Steps : List PathStep → Type 0 = λ xs. Inside sys lattice subs f new.at old.pair.to xs in
           subst Steps (sym written.fronts)
           (More new.at old.at old.pair.to written.front (reverse old.steps.items) written.part
-          (leads_owner sys lattice rows all old.pair.from new.at f (inr joined) o) (written.one.2 ∙ sym written.one.1 ∙ o) (draft.inside f o)));
+          (leads_owner sys lattice rows all old.pair.from new.at f (inr joined) o)
+          (written.one.2 ∙ sym written.one.1 ∙ o) (draft.inside f o)));
     }
 
     -- and one that is whole
@@ -106,14 +111,20 @@ module _ (sys : System) (lattice : ℕ) (rows : List Summary) where
         let from : new.pair.from ≡ old.pair.from = ap (λ (p : Pair). p.from) pair in
         elim written.before [
           | inl same ↦ absurd (not (sym same ∙ sym from))
-          | inr deeper ↦ (deeper.0, subst (λ u. rank rows u new.at < rank rows old.pair.from old.at) (sym from) deeper.1)
+          | inr deeper ↦
+              (deeper.0, subst (λ u. rank rows u new.at < rank rows old.pair.from old.at) (sym from) deeper.1)
         ]
 
   pub drafts_grown : (subs more : List (List PathStep)) (drafts : List Draft) → AreDrafts sys lattice rows subs drafts
       → AreDrafts sys lattice rows (subs ++ more) drafts
   drafts_grown subs more drafts all draft there =
       let was = all draft there in
-      record { whole = was.whole; joined = was.joined; inside = λ f o. inside_grown sys lattice subs more f draft.at draft.pair.to (reverse draft.steps.items) (was.inside f o) }
+      record {
+        whole = was.whole;
+        joined = was.joined;
+        inside = λ f o.
+            inside_grown sys lattice subs more f draft.at draft.pair.to (reverse draft.steps.items) (was.inside f o);
+      }
 
 -- what an answer says where it is there, and where it is not
 pub pair_given : (B : Pair → Type 0) (o : Option Pair) (p : Pair) → o ≡ Some p → IfSome o B → B p
@@ -123,9 +134,12 @@ pub pair_none : (A : Type 0) (o : Option Pair) → o ≡ None → IfNone o A →
 pair_none A o is given = let Of : Option Pair → Type 0 = λ x. IfNone x A in subst Of is given
 
 -- the pair inside a group that a summary's reason names
-pub group_missing : (sys : System) (lattice : ℕ) (rows : List Summary) (made : SubPaths) (draft : Draft) (before enter leave : ℕ) (pair : Pair) →
-    RestsOn sys lattice (take (rank rows draft.pair.from draft.at) rows) (record { from = draft.pair.from; to = draft.at; why = Group before enter leave }) →
-    IsInner sys enter leave pair → (pair.from ≡ pair.to → ⊥) → place_of made pair.from pair.to ≡ None → IsMissing rows made draft pair
+pub group_missing : (sys : System) (lattice : ℕ) (rows : List Summary) (made : SubPaths) (draft : Draft)
+    (before enter leave : ℕ) (pair : Pair) →
+    RestsOn sys lattice (take (rank rows draft.pair.from draft.at) rows)
+    (record { from = draft.pair.from; to = draft.at; why = Group before enter leave }) →
+    IsInner sys enter leave pair → (pair.from ≡ pair.to → ⊥) → place_of made pair.from pair.to ≡ None
+    → IsMissing rows made draft pair
 group_missing sys lattice rows made draft before enter leave pair r inner apart free =
     let p = r.part in
     let n = rank rows draft.pair.from draft.at in
@@ -133,6 +147,11 @@ group_missing sys lattice rows made draft before enter leave pair r inner apart 
     let to : pair.to ≡ p.2 = inner.to p.0 p.2 draft.at (has_of sys lattice leave _ p.6) in
     let early : HasPair (take n rows) pair.from pair.to = elim p.4 [
       | inl same ↦ absurd (apart (from ∙ same ∙ sym to))
-      | inr joined ↦ subst (λ u. HasPair (take n rows) u pair.to) (sym from) (subst (λ v. HasPair (take n rows) p.1 v) (sym to) joined)
+      | inr joined ↦ subst (λ u. HasPair (take n rows) u pair.to) (sym from)
+          (subst (λ v. HasPair (take n rows) p.1 v) (sym to) joined)
     ] in
-    record { joined = has_early rows n pair.from pair.to early; free = free; less = rank_early rows n pair.from pair.to early }
+    record {
+      joined = has_early rows n pair.from pair.to early;
+      free = free;
+      less = rank_early rows n pair.from pair.to early;
+    }

@@ -32,7 +32,8 @@ no_element e v is = absurd cc
 variable_is : (u v : ℕ) → Variable u ≡ Variable v → u ≡ v
 variable_is u v is = cc
 
-module _ (sys : System) (lattice start : ℕ) (rows : List Summary) (well : IsWellOwned sys) (all : Summarises sys lattice rows) where
+module _ (sys : System) (lattice start : ℕ) (rows : List Summary) (well : IsWellOwned sys)
+    (all : Summarises sys lattice rows) where
   -- what nothing or a summary joins to the inner end of an Enter is matched
   inner_matches : (n s u a b : ℕ) → Stands sys lattice n (Enter s u a) → Leads rows a b
       → (g : ℕ) × Matches sys lattice g a b
@@ -60,22 +61,26 @@ module _ (sys : System) (lattice start : ℕ) (rows : List Summary) (well : IsWe
   module _ (queue : List Reached) (sound : AreSound sys lattice (Variable start) rows queue) where
     -- where that holds of all earlier places
     came : (place : ℕ)
-        → ((from : ℕ) (r : Reached) → from < place → slice_get queue from ≡ Some r → Goes sys lattice start r.phase r.at) →
+        → ((from : ℕ) (r : Reached) → from < place → slice_get queue from ≡ Some r
+        → Goes sys lattice start r.phase r.at) →
         (q : Phase) (v : ℕ) (cause : Cause) → ComesBy sys lattice (Variable start) rows queue place q v cause
         → Goes sys lattice start q v
     came place earlier q v (Start n) comes = absurd (no_element comes.0 start comes.1)
     came place earlier q v Here comes =
         let begins : Goes sys lattice start First start = Begins in
         settled_goes v q comes.1 (subst (λ x. Goes sys lattice start First x) (variable_is start v comes.0) begins)
-    came place earlier q v (Step from n) comes = goes_by n comes.0.it.phase comes.0.it.at q v comes.1 (earlier from comes.0.it comes.0.before comes.0.there)
+    came place earlier q v (Step from n) comes =
+        goes_by n comes.0.it.phase comes.0.it.at q v comes.1 (earlier from comes.0.it comes.0.before comes.0.there)
     came place earlier q v (Group from enter leave) comes =
-        goes_around enter leave comes.0.it.phase comes.0.it.at q v comes.1 (earlier from comes.0.it comes.0.before comes.0.there)
+        goes_around enter leave comes.0.it.phase comes.0.it.at q v comes.1
+        (earlier from comes.0.it comes.0.before comes.0.there)
 
     reached_below : (most place : ℕ) (r : Reached) → place < most → slice_get queue place ≡ Some r
         → Goes sys lattice start r.phase r.at
     reached_below zero place r lt is = absurd (omega (arith, lt))
     reached_below (suc most) place r lt is =
-        came place (λ from other before there. reached_below most from other (omega (arith, lt, before)) there) r.phase r.at r.cause (sound place r is)
+        came place (λ from other before there. reached_below most from other
+        (omega (arith, lt, before)) there) r.phase r.at r.cause (sound place r is)
 
     pub reached_goes : (place v : ℕ) → StandsIn queue place v → GoesTo sys lattice start v
     reached_goes place v at =
@@ -88,5 +93,6 @@ pub found_goes : (sys : System) (lattice start : ℕ) (reach : Reach) → IsWell
     GoesTo sys lattice start v
 found_goes sys lattice start reach well of place v at =
     let From : Origin → Type 0 = λ o. AreSound sys reach.found.lattice o of.is.rows reach.found.queue.items in
-    let goes = reached_goes sys reach.found.lattice start of.is.rows well of.is.summarised reach.found.queue.items (subst From of.origin_is of.is.sound) place v at in
+    let goes = reached_goes sys reach.found.lattice start of.is.rows well of.is.summarised reach.found.queue.items
+    (subst From of.origin_is of.is.sound) place v at in
     subst (λ l. GoesTo sys l start v) of.lattice_is goes

@@ -9,4 +9,6 @@ view_there e = cc
 
 pub in_lattice : (lattices : List LatticeView) (n : ℕ) (view : LatticeView) → slice_get lattices n ≡ Some view
     → (Is : Order → Type 0) → Is view.order → InLattice lattices n Is
-in_lattice lattices n view there Is own other is = let Has : LatticeView → Type 0 = λ v. Is v.order in subst Has (view_there (sym there ∙ is)) own
+in_lattice lattices n view there Is own other is =
+    let Has : LatticeView → Type 0 = λ v. Is v.order in
+    subst Has (view_there (sym there ∙ is)) own

@@ -1,11 +1,13 @@
 -- Sub-paths that come behind others.
-use Rattle.std.proofs.Common.{◌≡◌, ◌≢◌, ℕ, zero, suc, ◌+◌, ◌-◌, ◌<◌, List, [], ◌∷◌, ◌++◌, length, slice_get, Option, Some, None, option_map, inl, inr, ◌⊎◌, refl, sym, ◌∙◌, ap, subst, arith}
+use Rattle.std.proofs.Common.{◌≡◌, ◌≢◌, ℕ, zero, suc, ◌+◌, ◌-◌, ◌<◌, List, [], ◌∷◌, ◌++◌, length, slice_get, Option, Some, None, option_map, inl, inr, refl, sym, ◌∙◌, ap, subst, arith}
 use Rattle.std.proofs.Math.Dec.{eqb-suc-zero}
 use Rattle.std.proofs.lemmas.Bool.{cases_eq}
 use Rattle.std.proofs.lemmas.List.{length-append}
+use Rattle.std.proofs.lemmas.Option.{same_Some}
+use Rattle.qual_base.proofs.Lists.{get_left, push_last}
 use Rattle.flow_graph.specs.declared.proof.PathStep.{PathStep}
 use Rattle.flow_graph.specs.declared.proof.PathStep.TheVariants.{Sub}
-use Rattle.flow_graph.specs.declared.place.Seen.TheVariants.{Through}
+use Rattle.flow_graph.specs.declared.step.Seen.TheVariants.{Through}
 use Rattle.flow_graph.specs.System.{System}
 use Rattle.flow_graph.specs.PathProofs.{look, span_of, AreApart}
 use Rattle.flow_graph.specs.declared.phase.Phase.{Phase}
@@ -13,37 +15,14 @@ use Rattle.flow_graph.specs.Parts.{Part, Flow, Empty, Full, Inside, Done, More, 
 use Rattle.error_path.specs.Made.{AreMade}
 use Rattle.error_path.specs.Traced.{HasSub}
 use Rattle.flow_laws.proofs.Showing.{sub_span}
-
--- an item of a list with one more, by its place
-pub push_cases : {X : Type 0} (xs : List X) (x : X) (n : ℕ) (y : X) → slice_get (xs ++ x ∷ []) n ≡ Some y →
-    ((n < length xs) × (slice_get xs n ≡ Some y)) ⊎ ((n ≡ length xs) × (x ≡ y))
-push_cases [] x zero y is = inr (refl, cc)
-push_cases [] x (suc n) y is = absurd cc
-push_cases (z ∷ xs) x zero y is = inl (omega arith, is)
-push_cases (z ∷ xs) x (suc n) y is = elim (push_cases xs x n y is) [
-  | inl old ↦ let lt = old.0 in inl (omega arith, old.1)
-  | inr new ↦ inr (ap (λ k. suc k) new.0, new.1)
-]
-
-pub push_last : {X : Type 0} (xs : List X) (x : X) → slice_get (xs ++ x ∷ []) (length xs) ≡ Some x
-push_last [] x = refl
-push_last (z ∷ xs) x = push_last xs x
-
-pub more_get : {X : Type 0} (xs more : List X) (n : ℕ) (y : X) → slice_get xs n ≡ Some y
-    → slice_get (xs ++ more) n ≡ Some y
-more_get [] more n y is = absurd cc
-more_get (x ∷ xs) more zero y is = is
-more_get (x ∷ xs) more (suc n) y is = more_get xs more n y is
-
-pub some_is : (n m : ℕ) → Some n ≡ Some m → n ≡ m
-some_is n m e = cc
+use Rattle.match_summary.proofs.Growth.{push_cases}
 
 module _ (sys : System) where
   span_more : (o : Option (List PathStep)) (subs more : List (List PathStep)) (n u v : ℕ) → slice_get subs n ≡ o
       → span_of sys o ≡ Through u v →
       span_of sys (slice_get (subs ++ more) n) ≡ Through u v
   span_more None subs more n u v is span = absurd cc
-  span_more (Some steps) subs more n u v is span = ap (span_of sys) (more_get subs more n steps is) ∙ span
+  span_more (Some steps) subs more n u v is span = ap (span_of sys) (get_left subs more n steps is) ∙ span
 
   look_next : (subs : List (List PathStep)) (n : ℕ) → look sys subs (Sub (suc n) 0) ≡ span_of sys (slice_get subs n)
   look_next subs n = let less : suc n - 1 ≡ n = omega arith in rw (eqb-suc-zero n, less) refl
@@ -52,7 +31,8 @@ module _ (sys : System) where
   pub look_more : (subs more : List (List PathStep)) (k u v : ℕ) → look sys subs (Sub k 0) ≡ Through u v
       → look sys (subs ++ more) (Sub k 0) ≡ Through u v
   look_more subs more zero u v is = absurd cc
-  look_more subs more (suc n) u v is = look_next (subs ++ more) n ∙ span_more (slice_get subs n) subs more n u v refl (sym (look_next subs n) ∙ is)
+  look_more subs more (suc n) u v is =
+      look_next (subs ++ more) n ∙ span_more (slice_get subs n) subs more n u v refl (sym (look_next subs n) ∙ is)
 
   -- a number that names a sub-path
   pub sub_looked : (subs : List (List PathStep)) (k u v : ℕ) → look sys subs (Sub k 0) ≡ Through u v
@@ -77,8 +57,10 @@ module _ (sys : System) where
       } in
       subst (λ xs. AreMade sys lattice xs place) (sym is) empty
 
-  module _ (lattice : ℕ) (subs : List (List PathStep)) (place new : ℕ → ℕ → Option ℕ) (u v : ℕ) (steps : List PathStep) (made : AreMade sys lattice subs place)
-      (sub : IsSub sys lattice subs u v steps) (free : place u v ≡ None) (room : length subs < 4294967294) (here : new u v ≡ Some (length subs))
+  module _ (lattice : ℕ) (subs : List (List PathStep)) (place new : ℕ → ℕ → Option ℕ) (u v : ℕ) (steps : List PathStep)
+      (made : AreMade sys lattice subs place)
+      (sub : IsSub sys lattice subs u v steps) (free : place u v ≡ None) (room : length subs < 4294967294)
+      (here : new u v ≡ Some (length subs))
       (others : (x y : ℕ) → (x ≡ u → y ≢ v) → new x y ≡ place x y) where
     longer : length (subs ++ steps ∷ []) ≡ length subs + 1
     longer = length-append subs (steps ∷ [])
@@ -86,10 +68,12 @@ module _ (sys : System) where
     new_found : (x y n : ℕ) → x ≡ u → y ≡ v → new x y ≡ Some n
         → (n < length (subs ++ steps ∷ [])) × (look sys (subs ++ steps ∷ []) (Sub (n + 1) 0) ≡ Through x y)
     new_found x y n f t is =
-        let at : n ≡ length subs = some_is n (length subs) (sym is ∙ ap (λ z. new z y) f ∙ ap (λ z. new u z) t ∙ here) in
+        let at : n ≡ length subs =
+        same_Some n (length subs) (sym is ∙ ap (λ z. new z y) f ∙ ap (λ z. new u z) t ∙ here) in
         let size = longer in (
           omega (arith, at, size),
-          look_at (subs ++ steps ∷ []) n ∙ ap (λ k. span_of sys (slice_get (subs ++ steps ∷ []) k)) at ∙ ap (span_of sys) (push_last subs steps) ∙ sub_span sys lattice subs u v steps sub
+          look_at (subs ++ steps ∷ []) n ∙ ap (λ k. span_of sys (slice_get (subs ++ steps ∷ []) k)) at
+              ∙ ap (span_of sys) (push_last subs steps) ∙ sub_span sys lattice subs u v steps sub
               ∙ ap (λ z. Through z v) (sym f) ∙ ap (λ z. Through x z) (sym t),
         )
 
@@ -106,7 +90,9 @@ module _ (sys : System) where
       | inr not ↦ others x y (λ e. absurd (not e)) ∙ is
       | inl f ↦ elim (cases_eq y v) [
         | inr not ↦ others x y (λ e. not) ∙ is
-        | inl t ↦ let no : None ≡ Some n = sym free ∙ ap (λ z. place z v) (sym f) ∙ ap (λ z. place x z) (sym t) ∙ is in absurd cc
+        | inl t ↦
+            let no : None ≡ Some n = sym free ∙ ap (λ z. place z v) (sym f) ∙ ap (λ z. place x z) (sym t) ∙ is in
+            absurd cc
       ]
     ]
 
@@ -120,7 +106,12 @@ module _ (sys : System) where
       ];
       named = λ n some is. elim (push_cases subs steps n some is) [
         | inl old ↦ let was = made.named n some old.1 in (was.0, was.1, was.2, old_named n was.0 was.1 was.3)
-        | inr last ↦ (u, v, ap (λ xs. span_of sys (Some xs)) (sym last.1) ∙ sub_span sys lattice subs u v steps sub, here ∙ ap (λ k. Some k) (sym last.0))
+        | inr last ↦ (
+          u,
+          v,
+          ap (λ xs. span_of sys (Some xs)) (sym last.1) ∙ sub_span sys lattice subs u v steps sub,
+          here ∙ ap (λ k. Some k) (sym last.0),
+        )
       ];
     }
 
@@ -134,7 +125,7 @@ module _ (sys : System) where
       let p = made.named n one first in
       let q = made.named m other second in
       let ends = through_is p.0 p.1 q.0 q.1 (sym p.2 ∙ same ∙ q.2) in
-      some_is n m (sym p.3 ∙ ap (λ z. place z p.1) ends.0 ∙ ap (λ z. place q.0 z) ends.1 ∙ q.3)
+      same_Some n m (sym p.3 ∙ ap (λ z. place z p.1) ends.0 ∙ ap (λ z. place q.0 z) ends.1 ∙ q.3)
 
   -- parts and main paths stay where more sub-paths come
   module _ (lattice : ℕ) (subs more : List (List PathStep)) where
@@ -147,13 +138,15 @@ module _ (sys : System) where
     pub inside_grown : (f u v : ℕ) (steps : List PathStep) → Inside sys lattice subs f u v steps
         → Inside sys lattice (subs ++ more) f u v steps
     inside_grown f u _ _ (Done _) = Done u
-    inside_grown f u v _ (More _ x _ front rest part from to on) = More u x v front rest (part_grown u x front part) from to (inside_grown f x v rest on)
+    inside_grown f u v _ (More _ x _ front rest part from to on) =
+        More u x v front rest (part_grown u x front part) from to (inside_grown f x v rest on)
 
     pub onward_grown : (goal : Goal) (p : Phase) (u : ℕ) (steps : List PathStep)
         → Onward sys lattice subs goal p u steps → Onward sys lattice (subs ++ more) goal p u steps
     onward_grown _ p u _ (Ends bound _ _ limit st) = Ends bound p u limit st
     onward_grown _ p u _ (There _ _) = There p u
-    onward_grown goal p u _ (Along _ _ _ v front rest part on) = Along goal p u v front rest (part_grown u v front part) (onward_grown goal _ v rest on)
+    onward_grown goal p u _ (Along _ _ _ v front rest part on) =
+        Along goal p u v front rest (part_grown u v front part) (onward_grown goal _ v rest on)
     onward_grown goal _ u _ (Back _ _ v s n rest st on) = Back goal u v s n rest st (onward_grown goal _ v rest on)
     onward_grown goal p u _ (Into _ _ _ v s n rest st on) = Into goal p u v s n rest st (onward_grown goal _ v rest on)
 

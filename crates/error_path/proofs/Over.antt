@@ -15,7 +15,8 @@ use Rattle.match_summary.proofs.Crossing.{has_end_of, has_enter, has_leave}
 
 -- what was marked beside
 abbrev pub IsOnly : PhaseMarks → PhaseMarks → Phase → ℕ → Type 0
-IsOnly old new phase at = (p : Phase) (n : ℕ) → mark_of new p n ≡ true → (mark_of old p n ≡ true) ⊎ ((phase ≡ p) × (at ≡ n))
+IsOnly old new phase at =
+    (p : Phase) (n : ℕ) → mark_of new p n ≡ true → (mark_of old p n ≡ true) ⊎ ((phase ≡ p) × (at ≡ n))
 
 unmarked_not : {b : Bool} → b ≡ false → b ≡ true → ⊥
 unmarked_not none is = let both : false ≡ true = sym none ∙ is in cc
@@ -43,13 +44,15 @@ module _ (sys : System) (lattice : ℕ) (rows : List Summary) where
     leaves = λ p n s b w m v is has st. absurd (unmarked_not (none p n) is);
   }
 
-  module _ (passed : PhaseMarks) (search : Search) (over : IsOver sys lattice rows passed search) (p : Phase) (n : ℕ) (is : mark_of passed p n ≡ true) where
+  module _ (passed : PhaseMarks) (search : Search) (over : IsOver sys lattice rows passed search) (p : Phase) (n : ℕ)
+      (is : mark_of passed p n ≡ true) where
     -- what a mark stands for
     pub enter_covered : (s a : ℕ) → Crosses sys (record { way = In; site = s; at = a }) n → (m : ℕ)
         → IsRounded sys lattice rows search p s a m
     enter_covered s a c m b v st leads =
         let link = has_enter s a c.constraint.link c.has in
-        over.groups p n s link.0 a m is (record { constraint = c.constraint; there = c.there; link_is = link.1 }) b v st leads
+        over.groups p n s link.0 a m is
+        (record { constraint = c.constraint; there = c.there; link_is = link.1 }) b v st leads
 
     pub leave_covered : (s b : ℕ) → Crosses sys (record { way = Out; site = s; at = b }) n → (m v : ℕ)
         → Stands sys lattice m (Leave s b v) → IsMarked search (settled (owner_of sys v) p) v
@@ -57,7 +60,8 @@ module _ (sys : System) (lattice : ℕ) (rows : List Summary) where
         let link = has_leave s b c.constraint.link c.has in
         over.leaves p n s b link.0 m v is (record { constraint = c.constraint; there = c.there; link_is = link.1 }) st
 
-  module _ (old new : PhaseMarks) (search : Search) (phase : Phase) (at : ℕ) (only : IsOnly old new phase at) (size : size_of new ≡ size_of old) (over : IsOver sys lattice rows old search) where
+  module _ (old new : PhaseMarks) (search : Search) (phase : Phase) (at : ℕ) (only : IsOnly old new phase at)
+      (size : size_of new ≡ size_of old) (over : IsOver sys lattice rows old search) where
     room_on : length sys.constraints ≤ size_of new
     room_on = subst (λ k. length sys.constraints ≤ k) (sym size) over.room
 
@@ -69,13 +73,16 @@ module _ (sys : System) (lattice : ℕ) (rows : List Summary) where
       groups = λ p n t u b m is has d v st leads. elim (only p n is) [
         | inl before ↦ over.groups p n t u b m before has d v st leads
         | inr came ↦
-            let ends : (t ≡ s) × (b ≡ a) = has_end_of sys (record { way = In; site = s; at = a }) at (Enter t u b) c (subst (λ k. Has sys k (Enter t u b)) (sym came.1) has) in
+            let ends : (t ≡ s) × (b ≡ a) = has_end_of sys (record { way = In; site = s; at = a }) at (Enter t u b) c
+            (subst (λ k. Has sys k (Enter t u b)) (sym came.1) has) in
             subst (λ q. IsMarked search (settled (owner_of sys v) q) v) came.0
-            (done m d v (subst (λ x. Stands sys lattice m (Leave x d v)) ends.0 st) (subst (λ x. Leads rows x d) ends.1 leads))
+            (done m d v (subst (λ x. Stands sys lattice m (Leave x d v)) ends.0 st)
+            (subst (λ x. Leads rows x d) ends.1 leads))
       ];
       leaves = λ p n t b w m v is has st. elim (only p n is) [
         | inl before ↦ over.leaves p n t b w m v before has st
-        | inr came ↦ absurd (has_end_of sys (record { way = In; site = s; at = a }) at (Leave t b w) c (subst (λ k. Has sys k (Leave t b w)) (sym came.1) has))
+        | inr came ↦ absurd (has_end_of sys (record { way = In; site = s; at = a }) at (Leave t b w) c
+            (subst (λ k. Has sys k (Leave t b w)) (sym came.1) has))
       ];
     }
 
@@ -87,13 +94,16 @@ module _ (sys : System) (lattice : ℕ) (rows : List Summary) where
       room = room_on;
       groups = λ p n t u a m is has d v st leads. elim (only p n is) [
         | inl before ↦ over.groups p n t u a m before has d v st leads
-        | inr came ↦ absurd (has_end_of sys (record { way = Out; site = s; at = b }) at (Enter t u a) c (subst (λ k. Has sys k (Enter t u a)) (sym came.1) has))
+        | inr came ↦ absurd (has_end_of sys (record { way = Out; site = s; at = b }) at (Enter t u a) c
+            (subst (λ k. Has sys k (Enter t u a)) (sym came.1) has))
       ];
       leaves = λ p n t d w m v is has st. elim (only p n is) [
         | inl before ↦ over.leaves p n t d w m v before has st
         | inr came ↦
-            let ends : (t ≡ s) × (d ≡ b) = has_end_of sys (record { way = Out; site = s; at = b }) at (Leave t d w) c (subst (λ k. Has sys k (Leave t d w)) (sym came.1) has) in
+            let ends : (t ≡ s) × (d ≡ b) = has_end_of sys (record { way = Out; site = s; at = b }) at (Leave t d w) c
+            (subst (λ k. Has sys k (Leave t d w)) (sym came.1) has) in
             subst (λ q. IsMarked search (settled (owner_of sys v) q) v) came.0
-            (done m v (subst (λ x. Stands sys lattice m (Leave s x v)) ends.1 (subst (λ x. Stands sys lattice m (Leave x d v)) ends.0 st)))
+            (done m v (subst (λ x. Stands sys lattice m (Leave s x v)) ends.1
+            (subst (λ x. Stands sys lattice m (Leave x d v)) ends.0 st)))
       ];
     }

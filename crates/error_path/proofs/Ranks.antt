@@ -21,14 +21,17 @@ rank_is row rows u v =
       ]
     ]
 
+-- a summary with these ends is theirs with its own reason
 same_row : (row : Summary) (u v : ℕ) → row.from ≡ u → row.to ≡ v → row ≡ record { from = u; to = v; why = row.why }
 same_row row u v f t =
-    let first : row ≡ record { from = u; to = row.to; why = row.why } = ap (λ (x : ℕ). let r : Summary = record { from = x; to = row.to; why = row.why } in r) f in
+    let first : row ≡ record { from = u; to = row.to; why = row.why } =
+    ap (λ (x : ℕ). let r : Summary = record { from = x; to = row.to; why = row.why } in r) f in
     first ∙ ap (λ (y : ℕ). let r : Summary = record { from = u; to = y; why = row.why } in r) t
 
 some_row : {x y : Summary} → Some x ≡ Some y → x ≡ y
 some_row e = cc
 
+-- a pair's first summary stands no later than any summary of the pair
 pub rank_most : (rows : List Summary) (n u v : ℕ) (why : Reason)
     → slice_get rows n ≡ Some (record { from = u; to = v; why = why }) → rank rows u v ≤ n
 rank_most [] n u v why is = absurd cc
@@ -42,6 +45,7 @@ rank_most (row ∷ rows) (suc n) u v why is = elim (rank_is row rows u v) [
   | inr later ↦ let deeper = rank_most rows n u v why is in omega (arith, deeper, later.1)
 ]
 
+-- where its rank is below the number of summaries, a pair has a summary at its rank
 rank_there : (rows : List Summary) (u v : ℕ) → rank rows u v < length rows
     → (why : Reason) × (slice_get rows (rank rows u v) ≡ Some (record { from = u; to = v; why = why }))
 rank_there [] u v lt = absurd (omega (arith, lt))

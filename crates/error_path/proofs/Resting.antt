@@ -13,6 +13,7 @@ use Rattle.match_summary.specs.Summary.{HasPair, Leads, EndsAt, RestsOn, Summari
 use Rattle.error_path.specs.Drafts.{rank}
 use Rattle.error_path.proofs.Ranks.{rank_most, rank_once}
 
+-- a summary among the first ones is one of all
 pub contains_early : (rows : List Summary) (n : ℕ) (row : Summary) → Contains (take n rows) row → Contains rows row
 contains_early rows n row there =
     let few = there.1 in
@@ -31,7 +32,8 @@ leads_early rows n u v (inr pair) = inr (has_early rows n u v pair)
 pub ends_early : (sys : System) (lattice : ℕ) (rows : List Summary) (n : ℕ) (why : Reason) (v : ℕ)
     → EndsAt sys lattice (take n rows) why v → EndsAt sys lattice rows why v
 ends_early sys lattice rows n (Last edge before) v h = h
-ends_early sys lattice rows n (Group before enter leave) v h = (h.0, h.1, h.2, h.3, leads_early rows n h.1 h.2 h.4, h.5, h.6)
+ends_early sys lattice rows n (Group before enter leave) v h =
+    (h.0, h.1, h.2, h.3, leads_early rows n h.1 h.2 h.4, h.5, h.6)
 
 -- a summary rests on the summaries
 pub rests : (sys : System) (lattice : ℕ) (rows : List Summary) → Summarises sys lattice rows → (row : Summary)
@@ -54,7 +56,8 @@ within_of sys lattice n link st = slice_get_within sys.constraints n st.constrai
 -- of the reason that was found for a pair
 pub rests_by : (sys : System) (lattice : ℕ) (rows : List Summary) → Summarises sys lattice rows
     → (u v : ℕ) (o : Option Reason) (why : Reason) →
-    IfSome o (λ w. Contains rows (record { from = u; to = v; why = w })) → o ≡ Some why → RestsOn sys lattice rows (record { from = u; to = v; why = why })
+    IfSome o (λ w. Contains rows (record { from = u; to = v; why = w })) → o ≡ Some why
+    → RestsOn sys lattice rows (record { from = u; to = v; why = why })
 rests_by sys lattice rows all u v o why some is =
     let Found : Option Reason → Type 0 = λ x. IfSome x (λ w. Contains rows (record { from = u; to = v; why = w })) in
     rests sys lattice rows all (record { from = u; to = v; why = why }) (subst Found is some)
@@ -63,7 +66,9 @@ rests_by sys lattice rows all u v o why some is =
 pub leads_owner : (sys : System) (lattice : ℕ) (rows : List Summary) → Summarises sys lattice rows → (u v f : ℕ)
     → Leads rows u v → owner_of sys u ≡ Function f → owner_of sys v ≡ Function f
 leads_owner sys lattice rows all u v f (inl same) o = ap (owner_of sys) (sym same) ∙ o
-leads_owner sys lattice rows all u v f (inr pair) o = let one = (rests sys lattice rows all _ pair.1).inside in one.2 ∙ sym one.1 ∙ o
+leads_owner sys lattice rows all u v f (inr pair) o =
+    let one = (rests sys lattice rows all _ pair.1).inside in
+    one.2 ∙ sym one.1 ∙ o
 
 -- the reason of a pair rests on the summaries that stand before the pair
 pub rests_early : (sys : System) (lattice : ℕ) (rows : List Summary) → Summarises sys lattice rows
@@ -76,7 +81,8 @@ rests_early sys lattice rows all u v o why some is =
     let row : Summary = record { from = u; to = v; why = why } in
     let n = there.0 in
     let at : slice_get rows n ≡ Some row = slice_get-get_or rows n row there.1 ∙ ap (λ (x : Summary). Some x) there.2 in
-    subst (λ k. RestsOn sys lattice (take k rows) row) (sym (rank_once rows all.once n u v why at)) (all.grounded n row at)
+    subst (λ k. RestsOn sys lattice (take k rows) row) (sym (rank_once rows all.once n u v why at))
+    (all.grounded n row at)
 
 -- such a pair stands before it
 pub rank_early : (rows : List Summary) (n u v : ℕ) → HasPair (take n rows) u v → rank rows u v < n
@@ -87,7 +93,8 @@ rank_early rows n u v pair =
     let row : Summary = record { from = u; to = v; why = pair.0 } in
     let within : pair.1.0 < length rows = omega (arith, few, size) in
     let is : get_or rows pair.1.0 row ≡ row = sym (get_or-take n rows pair.1.0 row lt) ∙ pair.1.2 in
-    let at : slice_get rows pair.1.0 ≡ Some row = slice_get-get_or rows pair.1.0 row within ∙ ap (λ (x : Summary). Some x) is in
+    let at : slice_get rows pair.1.0 ≡ Some row =
+    slice_get-get_or rows pair.1.0 row within ∙ ap (λ (x : Summary). Some x) is in
     let most = rank_most rows pair.1.0 u v pair.0 at in
     omega (arith, most, lt)
 

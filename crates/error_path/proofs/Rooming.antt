@@ -2,11 +2,11 @@
 use Rattle.std.proofs.Common.{◌≡◌, ◌≢◌, ℕ, true, false, List, [], ◌∷◌, ◌++◌, slice_get, slice_index_or, Some, inl, inr, refl, sym, ◌∙◌, ap, subst}
 use Rattle.std.proofs.lemmas.Bool.{cases_eq}
 use Rattle.flow_graph.specs.declared.phase.Phase.{Phase}
+use Rattle.match_summary.proofs.Growth.{push_cases}
 use Rattle.error_path.specs.Marks.{PhaseMarks, mark_of}
 use Rattle.error_path.specs.declared.search.Reached.{Reached}
 use Rattle.error_path.specs.Reaches.{AreFirsts, IsIn}
 use Rattle.error_path.specs.Rooms.{nowhere}
-use Rattle.error_path.proofs.Making.{push_cases}
 use Rattle.error_path.proofs.Searching.{unmarked}
 
 -- each variable that is marked is in a queue
@@ -20,7 +20,8 @@ ArePlaced firsts queue = (v : ℕ) → slice_index_or firsts v nowhere ≢ nowhe
 -- a variable of a queue that is not the last one's is in the rest
 in_less : (all left : List Reached) (r : Reached) (v : ℕ) → all ≡ left ++ r ∷ [] → v ≢ r.at → IsIn all v → IsIn left v
 in_less all left r v is other at =
-    let there : slice_get (left ++ r ∷ []) at.0 ≡ Some at.1.0 = subst (λ (xs : List Reached). slice_get xs at.0 ≡ Some at.1.0) is at.1.1 in
+    let there : slice_get (left ++ r ∷ []) at.0 ≡ Some at.1.0 =
+    subst (λ (xs : List Reached). slice_get xs at.0 ≡ Some at.1.0) is at.1.1 in
     elim (push_cases left r at.0 at.1.0 there) [
       | inl old ↦ (at.0, (at.1.0, old.1, at.1.2))
       | inr new ↦ absurd (other (sym at.1.2 ∙ ap (λ (x : Reached). x.at) (sym new.1)))
@@ -35,6 +36,7 @@ marked_less old new all left r is here others marked p v mark = elim (cases_eq v
   | inr other ↦ in_less all left r v is other (marked p v (sym (others p v other) ∙ mark))
 ]
 
+-- variables that have places are in the queue still when its last item and that item's place are gone
 pub placed_less : (old new : List ℕ) (all left : List Reached) (r : Reached) → all ≡ left ++ r ∷ []
     → slice_index_or new r.at nowhere ≡ nowhere →
     ((v : ℕ) → v ≢ r.at → slice_index_or new v nowhere ≡ slice_index_or old v nowhere) → ArePlaced old all
@@ -46,4 +48,5 @@ placed_less old new all left r is here others placed v place = elim (cases_eq v 
 
 -- the first places of a queue are those of its variables
 pub firsts_placed : (queue : List Reached) (firsts : List ℕ) → AreFirsts queue firsts → ArePlaced firsts queue
-firsts_placed queue firsts is v place = (slice_index_or firsts v nowhere, is.right v (slice_index_or firsts v nowhere) refl place)
+firsts_placed queue firsts is v place =
+    (slice_index_or firsts v nowhere, is.right v (slice_index_or firsts v nowhere) refl place)

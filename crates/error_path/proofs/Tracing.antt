@@ -1,10 +1,8 @@
 -- A path that is followed back from a bound.
-use Rattle.std.proofs.Common.{◌≡◌, ℕ, zero, suc, ◌<◌, length, max, true, false, slice_get, IfNone, IsSome, inl, inr, ◌⊎◌, bit_or, IfSome, MatchOption, arith, List, [], ◌∷◌, ◌++◌, Option, Some, None, refl, sym, ◌∙◌, ap, subst}
-use Rattle.std.specs.Int.{bit_at}
-use Rattle.std.proofs.lemmas.Bool.{cases_eq}
-use Rattle.std.proofs.lemmas.Nat.Bits.{bit_at_or}
+use Rattle.std.proofs.Common.{◌≡◌, ℕ, zero, suc, ◌<◌, length, true, false, slice_get, IfNone, IsSome, inl, inr, IfSome, MatchOption, arith, List, [], ◌∷◌, ◌++◌, Option, Some, None, refl, sym, ◌∙◌, ap, subst}
 use Rattle.lattice_core.specs.Order.{Order, leq}
-use Rattle.lattice_core.specs.View.{LatticeView, orders_of}
+use Rattle.lattice_core.specs.View.{LatticeView}
+use Rattle.lattice_core.proofs.Bits.{or_either}
 use Rattle.flow_graph.specs.declared.constraint.Limit.{Limit}
 use Rattle.flow_graph.specs.Paths.{Lead}
 use Rattle.flow_graph.specs.declared.constraint.Constraint.{Constraint}
@@ -33,23 +31,32 @@ module _ (sys : System) (lattice : ℕ) (subs : List (List PathStep)) (goal : Go
   pub traced_step : (n : ℕ) (p : Phase) (u : ℕ) (q : Phase) (v : ℕ) (rest : List PathStep)
       → LeadsBy sys lattice n p u q v → Onward sys lattice subs goal q v rest →
       Onward sys lattice subs goal p u (Take n 0 ∷ rest)
-  traced_step n p u q v rest (ByFlow _ _ _ _ _ st is) on = Along goal p u v (Take n 0 ∷ []) rest (Flow u v n st) (subst (λ f. Onward sys lattice subs goal f v rest) is on)
-  traced_step n _ u q v rest (ByLeave _ s _ _ _ st is) on = Back goal u v s n rest st (subst (λ f. Onward sys lattice subs goal f v rest) is on)
-  traced_step n p u q v rest (ByEnter _ s _ _ _ _ st is) on = Into goal p u v s n rest st (subst (λ f. Onward sys lattice subs goal f v rest) is on)
+  traced_step n p u q v rest (ByFlow _ _ _ _ _ st is) on =
+      Along goal p u v (Take n 0 ∷ []) rest (Flow u v n st) (subst (λ f. Onward sys lattice subs goal f v rest) is on)
+  traced_step n _ u q v rest (ByLeave _ s _ _ _ st is) on =
+      Back goal u v s n rest st (subst (λ f. Onward sys lattice subs goal f v rest) is on)
+  traced_step n p u q v rest (ByEnter _ s _ _ _ _ st is) on =
+      Into goal p u v s n rest st (subst (λ f. Onward sys lattice subs goal f v rest) is on)
 
-  pub traced_group : (enter leave : ℕ) (p : Phase) (u : ℕ) (q : Phase) (v : ℕ) (rows : List Summary) (rest : List PathStep) (number : Option ℕ) (a : LeadsAround sys lattice rows enter leave p u q v) →
-      IsJoinedBy sys subs number a.inner a.last → Onward sys lattice subs goal q v rest → Onward sys lattice subs goal p u (group_steps enter number leave ++ rest)
+  pub traced_group : (enter leave : ℕ) (p : Phase) (u : ℕ) (q : Phase) (v : ℕ) (rows : List Summary)
+      (rest : List PathStep) (number : Option ℕ) (a : LeadsAround sys lattice rows enter leave p u q v) →
+      IsJoinedBy sys subs number a.inner a.last → Onward sys lattice subs goal q v rest
+      → Onward sys lattice subs goal p u (group_steps enter number leave ++ rest)
   traced_group enter leave p u q v rows rest None a same on =
       let Back : ℕ → Type 0 = λ x. Stands sys lattice leave (Leave a.site x v) in
-      Along goal p u v (Take enter 0 ∷ Take leave 0 ∷ []) rest (Empty u a.inner v a.site enter leave a.enters (subst Back (sym same) a.leaves))
+      Along goal p u v (Take enter 0 ∷ Take leave 0 ∷ []) rest
+      (Empty u a.inner v a.site enter leave a.enters (subst Back (sym same) a.leaves))
       (subst (λ f. Onward sys lattice subs goal f v rest) a.phase_is on)
   traced_group enter leave p u q v rows rest (Some k) a looks on =
-      Along goal p u v (Take enter 0 ∷ Sub k 0 ∷ Take leave 0 ∷ []) rest (Full u a.inner a.last v a.site enter leave k a.enters looks a.leaves)
+      Along goal p u v (Take enter 0 ∷ Sub k 0 ∷ Take leave 0 ∷ []) rest
+      (Full u a.inner a.last v a.site enter leave k a.enters looks a.leaves)
       (subst (λ f. Onward sys lattice subs goal f v rest) a.phase_is on)
 
   -- where steps begin at what the search goes out from
-  pub traced_start : (origin : Origin) (rows : List Summary) (queue : List Reached) (place n : ℕ) (q : Phase) (v : ℕ) (rest : List PathStep) →
-      ComesBy sys lattice origin rows queue place q v (Start n) → Onward sys lattice subs goal q v rest → IsTraced sys lattice subs origin goal (Take n 0 ∷ rest)
+  pub traced_start : (origin : Origin) (rows : List Summary) (queue : List Reached) (place n : ℕ) (q : Phase) (v : ℕ)
+      (rest : List PathStep) →
+      ComesBy sys lattice origin rows queue place q v (Start n) → Onward sys lattice subs goal q v rest
+      → IsTraced sys lattice subs origin goal (Take n 0 ∷ rest)
   traced_start origin rows queue place n q v rest comes on =
       subst (λ (o : Origin). IsTraced sys lattice subs o goal (Take n 0 ∷ rest)) (sym comes.1)
       (record {
@@ -61,10 +68,13 @@ module _ (sys : System) (lattice : ℕ) (subs : List (List PathStep)) (goal : Go
         steps_are = refl;
       })
 
-  pub traced_here : (origin : Origin) (rows : List Summary) (queue : List Reached) (place : ℕ) (q : Phase) (v : ℕ) (steps : List PathStep) →
-      ComesBy sys lattice origin rows queue place q v Here → Onward sys lattice subs goal q v steps → IsTraced sys lattice subs origin goal steps
+  pub traced_here : (origin : Origin) (rows : List Summary) (queue : List Reached) (place : ℕ) (q : Phase) (v : ℕ)
+      (steps : List PathStep) →
+      ComesBy sys lattice origin rows queue place q v Here → Onward sys lattice subs goal q v steps
+      → IsTraced sys lattice subs origin goal steps
   traced_here origin rows queue place q v steps comes on =
-      subst (λ (o : Origin). IsTraced sys lattice subs o goal steps) (sym comes.0) (subst (λ f. Onward sys lattice subs goal f v steps) comes.1 on)
+      subst (λ (o : Origin). IsTraced sys lattice subs o goal steps) (sym comes.0)
+      (subst (λ f. Onward sys lattice subs goal f v steps) comes.1 on)
 
 -- steps from a constant to a bound are a path
 pub path_of : (sys : System) (lattice : ℕ) (subs : List (List PathStep)) (elem bound : ℕ) (steps : List PathStep)
@@ -80,13 +90,16 @@ path_of sys lattice subs elem bound steps f = record {
 }
 
 -- what a cause says of a variable, by the cause's form
-pub comes_as : (sys : System) (lattice : ℕ) (origin : Origin) (rows : List Summary) (queue : List Reached) (place : ℕ) (q : Phase) (v : ℕ) (cause other : Cause)
+pub comes_as : (sys : System) (lattice : ℕ) (origin : Origin) (rows : List Summary) (queue : List Reached) (place : ℕ)
+    (q : Phase) (v : ℕ) (cause other : Cause)
     → cause ≡ other →
     ComesBy sys lattice origin rows queue place q v cause → ComesBy sys lattice origin rows queue place q v other
-comes_as sys lattice origin rows queue place q v cause other is comes = subst (λ x. ComesBy sys lattice origin rows queue place q v x) is comes
+comes_as sys lattice origin rows queue place q v cause other is comes =
+    subst (λ x. ComesBy sys lattice origin rows queue place q v x) is comes
 
 -- the variables inside a group are those of its Enter and its Leave
-module _ (sys : System) (lattice : ℕ) (rows : List Summary) (enter leave : ℕ) (p : Phase) (u : ℕ) (q : Phase) (v : ℕ) (a : LeadsAround sys lattice rows enter leave p u q v) (pair : Pair)
+module _ (sys : System) (lattice : ℕ) (rows : List Summary) (enter leave : ℕ) (p : Phase) (u : ℕ) (q : Phase) (v : ℕ)
+    (a : LeadsAround sys lattice rows enter leave p u q v) (pair : Pair)
     (inner : IsInner sys enter leave pair) where
   from_is : pair.from ≡ a.inner
   from_is = inner.from a.site u a.inner (has_of sys lattice enter _ a.enters)
@@ -120,21 +133,14 @@ some_given B o n is given = let Of : Option ℕ → Type 0 = λ x. IfSome x B in
 pub some_reached : {x y : Reached} → Some x ≡ Some y → x ≡ y
 some_reached e = cc
 
-either_one : (a b : ℕ) → max a b ≡ 1 → (a ≡ 1) ⊎ (b ≡ 1)
-either_one a b is = elim (cases_eq a 1) [ inl e ↦ inl e | inr ne ↦ inr (omega (arith, is, ne)) ]
-
--- an element of a union is in one of the two
-in_union : (a b e : ℕ) → bit_at (bit_or a b) e ≡ 1 → (bit_at a e ≡ 1) ⊎ (bit_at b e ≡ 1)
-in_union a b e is =
-    let most : max (bit_at a e) (bit_at b e) ≡ 1 = sym (bit_at_or a b e) ∙ is in either_one (bit_at a e) (bit_at b e) most
-
 -- an element that reaches a variable leads to it
 pub reached_leads : (sys : System) (solution : Solution) → IsSolved sys solution → (v e : ℕ) → HasElement solution v e
     → Lead sys solution.lattice e v
-reached_leads sys solution solved v e has = elim (in_union (set_of solution.phases First v) (set_of solution.phases Second v) e has) [
-  | inl first ↦ inl ((solved.exact First v e).0 first)
-  | inr second ↦ inr ((solved.exact Second v e).0 second)
-]
+reached_leads sys solution solved v e has =
+    elim (or_either (set_of solution.phases First v) (set_of solution.phases Second v) e has) [
+      | inl first ↦ inl ((solved.exact First v e).0 first)
+      | inr second ↦ inr ((solved.exact Second v e).0 second)
+    ]
 
 -- each bound of a number is the one that the element exceeds
 pub bound_over : (sys : System) (solution : Solution) (order : Order) (bound elem : ℕ)
@@ -142,23 +148,15 @@ pub bound_over : (sys : System) (solution : Solution) (order : Order) (bound ele
     Stands sys solution.lattice bound (Bound v solution.lattice limit) → leq order elem limit ≡ false
 bound_over sys solution order bound elem ex v limit st =
     let same : ex.bound.constraint ≡ st.constraint = same_constraint (sym ex.bound.there ∙ st.there) in
-    let links : Bound ex.var solution.lattice ex.limit ≡ Bound v solution.lattice limit = sym ex.bound.link_is ∙ ap (λ (c : Constraint). c.link) same ∙ st.link_is in
+    let links : Bound ex.var solution.lattice ex.limit ≡ Bound v solution.lattice limit =
+    sym ex.bound.link_is ∙ ap (λ (c : Constraint). c.link) same ∙ st.link_is in
     let limits : ex.limit ≡ limit = cc in
     subst (λ l. leq order elem l ≡ false) limits ex.over
   where
     same_constraint : {x y : Constraint} → Some x ≡ Some y → x ≡ y
     same_constraint e = cc
 
--- a list of lattices and that of their orders
-pub order_there : (views : List LatticeView) (n : ℕ) (view : LatticeView) → slice_get views n ≡ Some view
-    → slice_get (orders_of views) n ≡ Some view.order
-order_there [] n view is = absurd cc
-order_there (x ∷ views) zero view is = let same : x ≡ view = same_view is in ap (λ (v : LatticeView). Some v.order) same
-  where
-    same_view : {a b : LatticeView} → Some a ≡ Some b → a ≡ b
-    same_view e = cc
-order_there (x ∷ views) (suc n) view is = order_there views n view is
-
+-- a list of lattices has one at each number below its length
 pub view_at : (views : List LatticeView) (n : ℕ) → n < length views
     → (view : LatticeView) × (slice_get views n ≡ Some view)
 view_at [] n lt = absurd (omega (arith, lt))

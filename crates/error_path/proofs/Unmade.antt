@@ -16,7 +16,8 @@ unmade (row ∷ rows) place = free (place row.from row.to) + unmade rows place
 some_row : {x y : Summary} → Some x ≡ Some y → x ≡ y
 some_row e = cc
 
-module _ (old new : ℕ → ℕ → Option ℕ) (u v n : ℕ) (before : old u v ≡ None) (here : new u v ≡ Some n) (others : (x y : ℕ) → (x ≡ u → y ≢ v) → new x y ≡ old x y) where
+module _ (old new : ℕ → ℕ → Option ℕ) (u v n : ℕ) (before : old u v ≡ None) (here : new u v ≡ Some n)
+    (others : (x y : ℕ) → (x ≡ u → y ≢ v) → new x y ≡ old x y) where
   gone : (x y : ℕ) → x ≡ u → y ≡ v → free (new x y) ≡ 0
   gone x y f t = ap free (ap (λ a. new a y) f ∙ ap (λ b. new u b) t ∙ here)
 
@@ -25,7 +26,9 @@ module _ (old new : ℕ → ℕ → Option ℕ) (u v n : ℕ) (before : old u v 
 
   free_most : (x y : ℕ) → free (new x y) ≤ free (old x y)
   free_most x y = elim (cases_eq x u) [
-    | inr not ↦ let same : free (new x y) ≡ free (old x y) = ap free (others x y (λ e. absurd (not e))) in omega (arith, same)
+    | inr not ↦
+        let same : free (new x y) ≡ free (old x y) = ap free (others x y (λ e. absurd (not e))) in
+        omega (arith, same)
     | inl f ↦ elim (cases_eq y v) [
       | inr not ↦ let same : free (new x y) ≡ free (old x y) = ap free (others x y (λ e. not)) in omega (arith, same)
       | inl t ↦ let none = gone x y f t in omega (arith, none)
@@ -34,7 +37,10 @@ module _ (old new : ℕ → ℕ → Option ℕ) (u v n : ℕ) (before : old u v 
 
   unmade_most : (rows : List Summary) → unmade rows new ≤ unmade rows old
   unmade_most [] = omega arith
-  unmade_most (row ∷ rows) = let rest = unmade_most rows in let one = free_most row.from row.to in omega (arith, rest, one)
+  unmade_most (row ∷ rows) =
+      let rest = unmade_most rows in
+      let one = free_most row.from row.to in
+      omega (arith, rest, one)
 
   unmade_at : (rows : List Summary) (k : ℕ) (row : Summary) → slice_get rows k ≡ Some row → row.from ≡ u → row.to ≡ v
       → unmade rows new < unmade rows old
@@ -54,5 +60,6 @@ module _ (old new : ℕ → ℕ → Option ℕ) (u v n : ℕ) (before : old u v 
   pub unmade_less : (rows : List Summary) → HasPair rows u v → unmade rows new < unmade rows old
   unmade_less rows pair =
       let row : Summary = record { from = u; to = v; why = pair.0 } in
-      let at : slice_get rows pair.1.0 ≡ Some row = slice_get-get_or rows pair.1.0 row pair.1.1 ∙ ap (λ (x : Summary). Some x) pair.1.2 in
+      let at : slice_get rows pair.1.0 ≡ Some row =
+      slice_get-get_or rows pair.1.0 row pair.1.1 ∙ ap (λ (x : Summary). Some x) pair.1.2 in
       unmade_at rows pair.1.0 row at refl refl

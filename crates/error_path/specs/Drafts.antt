@@ -19,9 +19,9 @@ rank [] u v = 0
 rank (row ∷ rows) u v = if (row.from == u) && (row.to == v) then 0 else rank rows u v + 1
 
 -- The steps of a draft are parts inside one function, to the last variable of a pair that a summary joins; another
--- joins the
--- pair's first variable to their beginning.
-pub record IsDraft (sys : System) (lattice : ℕ) (rows : List Summary) (subs : List (List PathStep)) (draft : Draft) : Type 0 where
+-- joins the pair's first variable to their beginning.
+pub record IsDraft (sys : System) (lattice : ℕ) (rows : List Summary) (subs : List (List PathStep))
+    (draft : Draft) : Type 0 where
   pub whole : HasPair rows draft.pair.from draft.pair.to
   pub joined : HasPair rows draft.pair.from draft.at
   pub inside : (f : ℕ) → owner_of sys draft.pair.from ≡ Function f
@@ -33,21 +33,27 @@ AreDrafts sys lattice rows subs drafts = (draft : Draft) → Contains drafts dra
 
 -- what waits in the end waited before
 abbrev pub StayDrafts : List Draft → List Draft → Type 0
-StayDrafts old new = (sys : System) (lattice : ℕ) (rows : List Summary) (subs : List (List PathStep)) → AreDrafts sys lattice rows subs old →
+StayDrafts old new =
+    (sys : System) (lattice : ℕ) (rows : List Summary) (subs : List (List PathStep))
+    → AreDrafts sys lattice rows subs old →
     AreDrafts sys lattice rows subs new
 
 -- it is one of these drafts, or a draft of the pair
 abbrev pub IsDraftAfter : List Draft → Pair → Draft → Type 0
-IsDraftAfter drafts pair draft = (sys : System) (lattice : ℕ) (rows : List Summary) (subs : List (List PathStep)) → AreDrafts sys lattice rows subs drafts →
+IsDraftAfter drafts pair draft =
+    (sys : System) (lattice : ℕ) (rows : List Summary) (subs : List (List PathStep))
+    → AreDrafts sys lattice rows subs drafts →
     HasPair rows pair.from pair.to → IsDraft sys lattice rows subs draft
 
 -- One more part was written, to a variable that the pair's first one is or to which an earlier summary joins it.
-pub record IsWritten (sys : System) (lattice : ℕ) (rows : List Summary) (subs : List (List PathStep)) (old new : Draft) : Type 0 where
+pub record IsWritten (sys : System) (lattice : ℕ) (rows : List Summary) (subs : List (List PathStep))
+    (old new : Draft) : Type 0 where
   pub front : List PathStep
   pub part : Part sys lattice subs new.at old.at front
   pub fronts : Fronts front old.steps.items new.steps.items
   pub one : AreOfOne sys old.pair.from old.at
-  pub before : (old.pair.from ≡ new.at) ⊎ (HasPair rows old.pair.from new.at × (rank rows old.pair.from new.at < rank rows old.pair.from old.at))
+  pub before : (old.pair.from ≡ new.at)
+      ⊎ (HasPair rows old.pair.from new.at × (rank rows old.pair.from new.at < rank rows old.pair.from old.at))
 
 -- an earlier summary joins a pair that has no sub-path
 pub record IsMissing (rows : List Summary) (made : SubPaths) (draft : Draft) (pair : Pair) : Type 0 where
@@ -57,5 +63,6 @@ pub record IsMissing (rows : List Summary) (made : SubPaths) (draft : Draft) (pa
 
 -- the group of two constraints was written in front of steps
 abbrev pub AddsGroup : System → ℕ → List (List PathStep) → ℕ → ℕ → List PathStep → List PathStep → Type 0
-AddsGroup sys lattice subs enter leave old new = (s u a b v : ℕ) → Stands sys lattice enter (Enter s u a) → Stands sys lattice leave (Leave s b v) →
+AddsGroup sys lattice subs enter leave old new =
+    (s u a b v : ℕ) → Stands sys lattice enter (Enter s u a) → Stands sys lattice leave (Leave s b v) →
     (front : List PathStep) × Part sys lattice subs u v front × Fronts front old new

@@ -3,7 +3,7 @@ use Rattle.std.specs.Prelude.{◌≡◌, ℕ, ◌+◌, ◌<◌, ◌≤◌, List,
 use Rattle.flow_graph.specs.declared.constraint.Link.TheVariants.{Enter, Leave}
 use Rattle.flow_graph.specs.declared.proof.PathStep.{PathStep}
 use Rattle.flow_graph.specs.declared.proof.PathStep.TheVariants.{Take, Sub}
-use Rattle.flow_graph.specs.declared.place.Seen.TheVariants.{Through}
+use Rattle.flow_graph.specs.declared.step.Seen.TheVariants.{Through}
 use Rattle.flow_graph.specs.System.{System, Has}
 use Rattle.flow_graph.specs.PathProofs.{look, span_of, steps_of}
 use Rattle.error_path.specs.Places.{place_in}

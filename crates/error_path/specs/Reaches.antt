@@ -72,4 +72,5 @@ AreReaches sys reaches = (n : ℕ) (found : Found) → slice_get reaches.found.i
 -- a place of what is kept is that of a lattice and of what was searched from
 abbrev pub IsOf : Reaches → ℕ → ℕ → Origin → Type 0
 IsOf reaches place lattice origin =
-    (found : Found) × (slice_get reaches.found.items place ≡ Some found) × (found.lattice ≡ lattice) × (found.origin ≡ origin)
+    (found : Found) × (slice_get reaches.found.items place ≡ Some found) × (found.lattice ≡ lattice)
+    × (found.origin ≡ origin)

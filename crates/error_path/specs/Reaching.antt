@@ -26,7 +26,8 @@ pub data LeadsBy (sys : System) (lattice : ℕ) : ℕ → Phase → ℕ → Phas
       → LeadsBy sys lattice n p u q v
 
 -- so does a group, inside which nothing or a summary leads from its Enter to its Leave
-pub record LeadsAround (sys : System) (lattice : ℕ) (rows : List Summary) (enter leave : ℕ) (p : Phase) (u : ℕ) (q : Phase) (v : ℕ) : Type 0 where
+pub record LeadsAround (sys : System) (lattice : ℕ) (rows : List Summary) (enter leave : ℕ) (p : Phase) (u : ℕ)
+    (q : Phase) (v : ℕ) : Type 0 where
   pub site : ℕ
   pub inner : ℕ
   pub last : ℕ
@@ -42,19 +43,21 @@ pub record Earlier (queue : List Reached) (from place : ℕ) : Type 0 where
   pub before : from < place
 
 -- A variable was reached by a constant of the element that the search goes out from, as the variable that it goes out
--- from, or
--- from an earlier place of the queue.
+-- from, or from an earlier place of the queue.
 abbrev pub ComesBy : System → ℕ → Origin → List Summary → List Reached → ℕ → Phase → ℕ → Cause → Type 0
 ComesBy sys lattice origin rows queue place q v (Start n) =
-    (elem : ℕ) × (origin ≡ Element elem) × Stands sys lattice n (Const lattice elem v) × (q ≡ settled (owner_of sys v) First)
+    (elem : ℕ) × (origin ≡ Element elem) × Stands sys lattice n (Const lattice elem v)
+    × (q ≡ settled (owner_of sys v) First)
 ComesBy sys lattice origin rows queue place q v Here = (origin ≡ Variable v) × (q ≡ settled (owner_of sys v) First)
-ComesBy sys lattice origin rows queue place q v (Step from n) = (e : Earlier queue from place) × LeadsBy sys lattice n e.it.phase e.it.at q v
+ComesBy sys lattice origin rows queue place q v (Step from n) =
+    (e : Earlier queue from place) × LeadsBy sys lattice n e.it.phase e.it.at q v
 ComesBy sys lattice origin rows queue place q v (Group from enter leave) =
     (e : Earlier queue from place) × LeadsAround sys lattice rows enter leave e.it.phase e.it.at q v
 
 -- each item of the queue says how its variable was reached
 abbrev pub AreSound : System → ℕ → Origin → List Summary → List Reached → Type 0
-AreSound sys lattice origin rows queue = (n : ℕ) (r : Reached) → slice_get queue n ≡ Some r → ComesBy sys lattice origin rows queue n r.phase r.at r.cause
+AreSound sys lattice origin rows queue =
+    (n : ℕ) (r : Reached) → slice_get queue n ≡ Some r → ComesBy sys lattice origin rows queue n r.phase r.at r.cause
 
 -- the variable that a search goes out from, if it is one, is below a number
 abbrev pub HasRoom : Origin → ℕ → Type 0
@@ -81,7 +84,8 @@ pub record IsGood (sys : System) (lattice : ℕ) (origin : Origin) (rows : List 
 
 -- whatever it goes out from, a search that was good is so afterwards
 abbrev pub StaysGood : System → ℕ → List Summary → Search → Search → Type 0
-StaysGood sys lattice rows old new = (origin : Origin) → IsGood sys lattice origin rows old → IsGood sys lattice origin rows new
+StaysGood sys lattice rows old new =
+    (origin : Origin) → IsGood sys lattice origin rows old → IsGood sys lattice origin rows new
 
 -- a search after it went on: each item takes one of the marks that were left
 pub record Grows (old new : Search) : Type 0 where
@@ -93,17 +97,19 @@ pub record Grows (old new : Search) : Type 0 where
 
 -- the group of an Enter of a site to a variable and of a constraint that leaves from another was followed in a phase
 abbrev pub IsRoundedFrom : System → ℕ → List Summary → Search → Phase → ℕ → ℕ → ℕ → ℕ → Type 0
-IsRoundedFrom sys lattice rows search p site inner b leave = (v : ℕ) → Stands sys lattice leave (Leave site b v) → Leads rows inner b →
+IsRoundedFrom sys lattice rows search p site inner b leave =
+    (v : ℕ) → Stands sys lattice leave (Leave site b v) → Leads rows inner b →
     IsMarked search (settled (owner_of sys v) p) v
 
 -- from whatever variable it leaves
 abbrev pub IsRounded : System → ℕ → List Summary → Search → Phase → ℕ → ℕ → ℕ → Type 0
-IsRounded sys lattice rows search p site inner leave = (b : ℕ) → IsRoundedFrom sys lattice rows search p site inner b leave
+IsRounded sys lattice rows search p site inner leave =
+    (b : ℕ) → IsRoundedFrom sys lattice rows search p site inner b leave
 
 -- An Enter that is marked stands for the groups of its site that begin at its variable, and a Leave for all Leaves of
--- its site
--- from its variable: they were followed.
-pub record IsOver (sys : System) (lattice : ℕ) (rows : List Summary) (passed : PhaseMarks) (search : Search) : Type 0 where
+-- its site from its variable: they were followed.
+pub record IsOver (sys : System) (lattice : ℕ) (rows : List Summary) (passed : PhaseMarks)
+    (search : Search) : Type 0 where
   pub room : length sys.constraints ≤ size_of passed
   pub groups : (p : Phase) (n s u a m : ℕ) → mark_of passed p n ≡ true → Has sys n (Enter s u a)
       → IsRounded sys lattice rows search p s a m
@@ -112,7 +118,8 @@ pub record IsOver (sys : System) (lattice : ℕ) (rows : List Summary) (passed :
       IsMarked search (settled (owner_of sys v) p) v
 
 -- all that a constraint leads to from a variable in a phase, by itself or as the first of a group, is marked
-pub record IsFollowed (sys : System) (lattice : ℕ) (rows : List Summary) (search : Search) (p : Phase) (u n : ℕ) : Type 0 where
+pub record IsFollowed (sys : System) (lattice : ℕ) (rows : List Summary) (search : Search) (p : Phase)
+    (u n : ℕ) : Type 0 where
   pub flow : (v : ℕ) → Stands sys lattice n (Le u v) → IsMarked search (settled (owner_of sys v) p) v
   pub back : (s v : ℕ) → p ≡ First → Stands sys lattice n (Leave s u v)
       → IsMarked search (settled (owner_of sys v) First) v
@@ -121,11 +128,14 @@ pub record IsFollowed (sys : System) (lattice : ℕ) (rows : List Summary) (sear
 
 -- all that the constraints lead to from a place of the queue is marked
 abbrev pub IsVisited : System → ℕ → List Summary → Search → ℕ → Type 0
-IsVisited sys lattice rows search place = (r : Reached) → slice_get search.queue.items place ≡ Some r → (n : ℕ) → IsFollowed sys lattice rows search r.phase r.at n
+IsVisited sys lattice rows search place =
+    (r : Reached) → slice_get search.queue.items place ≡ Some r → (n : ℕ)
+    → IsFollowed sys lattice rows search r.phase r.at n
 
 -- all constants of the element are marked, or the variable is
 abbrev pub AreStarted : System → ℕ → Origin → Search → Type 0
-AreStarted sys lattice (Element e) search = (n v : ℕ) → Stands sys lattice n (Const lattice e v) → IsMarked search (settled (owner_of sys v) First) v
+AreStarted sys lattice (Element e) search =
+    (n v : ℕ) → Stands sys lattice n (Const lattice e v) → IsMarked search (settled (owner_of sys v) First) v
 AreStarted sys lattice (Variable v) search = IsMarked search (settled (owner_of sys v) First) v
 
 -- a place of the queue has this variable and this phase

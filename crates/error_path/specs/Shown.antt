@@ -24,7 +24,8 @@ abbrev pub EndsWith : ℕ → PathProof → Type 0
 EndsWith bound proof = last_of proof.main.items ≡ Some (Take bound 0)
 
 -- the first step takes a constant of an element that exceeds the bound
-pub record BeginsOver (sys : System) (solution : Solution) (order : Order) (bound : ℕ) (proof : PathProof) : Type 0 where
+pub record BeginsOver (sys : System) (solution : Solution) (order : Order) (bound : ℕ)
+    (proof : PathProof) : Type 0 where
   pub element : ℕ
   pub exceeds : Exceeds sys solution order bound element
   pub number : ℕ

@@ -5,7 +5,7 @@ use Rattle.flow_graph.specs.declared.phase.Phase.TheVariants.{First}
 use Rattle.flow_graph.specs.declared.proof.PathStep.{PathStep}
 use Rattle.flow_graph.specs.declared.proof.PathStep.TheVariants.{Take, Sub}
 use Rattle.flow_graph.specs.declared.proof.Walk.{Walk}
-use Rattle.flow_graph.specs.declared.place.Seen.TheVariants.{Through}
+use Rattle.flow_graph.specs.declared.step.Seen.TheVariants.{Through}
 use Rattle.flow_graph.specs.System.{System, owner_of, Stands}
 use Rattle.flow_graph.specs.PathProofs.{look, span_of, steps_of, AreApart}
 use Rattle.flow_graph.specs.Parts.{settled, AreSubs, Goal, Onward}
@@ -19,7 +19,8 @@ IsJoinedBy sys subs None u v = u ≡ v
 IsJoinedBy sys subs (Some k) u v = look sys subs (Sub k 0) ≡ Through u v
 
 -- These steps lead from a constant of an element, which is the first of them, to a goal.
-pub record FromConstant (sys : System) (lattice : ℕ) (subs : List (List PathStep)) (elem : ℕ) (goal : Goal) (steps : List PathStep) : Type 0 where
+pub record FromConstant (sys : System) (lattice : ℕ) (subs : List (List PathStep)) (elem : ℕ) (goal : Goal)
+    (steps : List PathStep) : Type 0 where
   pub start : ℕ
   pub from : ℕ
   pub constant : Stands sys lattice start (Const lattice elem from)
@@ -30,7 +31,8 @@ pub record FromConstant (sys : System) (lattice : ℕ) (subs : List (List PathSt
 -- these steps lead from what a search goes out from to a goal
 abbrev pub IsTraced : System → ℕ → List (List PathStep) → Origin → Goal → List PathStep → Type 0
 IsTraced sys lattice subs (Element e) goal steps = FromConstant sys lattice subs e goal steps
-IsTraced sys lattice subs (Variable u) goal steps = Onward sys lattice subs goal (settled (owner_of sys u) First) u steps
+IsTraced sys lattice subs (Variable u) goal steps =
+    Onward sys lattice subs goal (settled (owner_of sys u) First) u steps
 
 -- A walk of a lattice from one variable to another, with the sub-paths that it names. Its lines are 0.
 pub record IsWalkShown (sys : System) (lattice from to : ℕ) (shown : Walk) : Type 0 where

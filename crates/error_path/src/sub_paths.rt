@@ -3,7 +3,7 @@
 ghost use Rattle.std.specs.Prelude.{◌≡◌, ◌≢◌, ℕ, ◌<◌, [], ◌∷◌, ◌++◌, Some, None, OnOk, IfOk};
 ghost use Rattle.std.specs.Prelude.{IfNone, IfSome, length, reverse};
 ghost use Rattle.flow_graph.specs.declared.proof.PathStep.TheVariants.{Sub};
-ghost use Rattle.flow_graph.specs.declared.place.Seen.TheVariants.{Through};
+ghost use Rattle.flow_graph.specs.declared.step.Seen.TheVariants.{Through};
 ghost use Rattle.flow_graph.specs.System.{System};
 ghost use Rattle.flow_graph.specs.PathProofs.{look};
 ghost use Rattle.match_summary.specs.Summary.{HasPair, Summarises};

@@ -1,5 +1,6 @@
 -- Lists of expressions and of steps as a program holds them, and as readers of lists answer them.
 use Rattle.std.proofs.Common.{◌≡◌, List, [], ◌∷◌, ◌++◌, refl, ap, map}
+use Rattle.std.proofs.lemmas.List.{map_push}
 use Rattle.c_syntax.specs.declared.expression.Assoc as rust_assoc
 use Rattle.c_syntax.specs.declared.expression.Expr as rust_expr
 use Rattle.c_syntax.specs.declared.initialiser.Desig as rust_desig
@@ -20,18 +21,14 @@ pub steps_same : (xs : List rust_desig.Desig) → parts.desigs_from (map desig_o
 steps_same [] = refl
 steps_same (x ∷ xs) = ap (more_desigs (desig_of x)) (steps_same xs)
 
-pub one_mapped : {A B : Type 0} (f : A → B) (xs : List A) (x : A) → map f (xs ++ x ∷ []) ≡ map f xs ++ f x ∷ []
-one_mapped f [] x = refl
-one_mapped f (y ∷ xs) x = ap (λ more. f y ∷ more) (one_mapped f xs x)
-
 pub one_expr_mapped : (es : List rust_expr.Expr) (e : rust_expr.Expr)
     → map expr_of (es ++ e ∷ []) ≡ map expr_of es ++ expr_of e ∷ []
-one_expr_mapped es e = one_mapped expr_of es e
+one_expr_mapped es e = map_push expr_of es e
 
 pub one_step_mapped : (xs : List rust_desig.Desig) (x : rust_desig.Desig)
     → map desig_of (xs ++ x ∷ []) ≡ map desig_of xs ++ desig_of x ∷ []
-one_step_mapped xs x = one_mapped desig_of xs x
+one_step_mapped xs x = map_push desig_of xs x
 
 pub one_assoc_mapped : (xs : List rust_assoc.Assoc) (x : rust_assoc.Assoc)
     → map assoc_of (xs ++ x ∷ []) ≡ map assoc_of xs ++ assoc_of x ∷ []
-one_assoc_mapped xs x = one_mapped assoc_of xs x
+one_assoc_mapped xs x = map_push assoc_of xs x

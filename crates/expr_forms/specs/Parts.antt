@@ -14,7 +14,7 @@ use Rattle.c_nodes.specs.declared.sized.SizedSteps.{SizedSteps}
 use Rattle.c_nodes.specs.declared.sized.SizedTypeName.{SizedTypeName}
 use Rattle.c_nodes.specs.Sized.{expr}
 use Rattle.c_units.specs.HeldScopes.{HeldScopes}
-use Rattle.c_reading.specs.declared.kinds.Fault.TheVariants.{Unexpected}
+use Rattle.c_reading.specs.declared.kinds.FaultKind.TheVariants.{Unexpected}
 use Rattle.c_reading.specs.declared.kinds.Opening.{Opening}
 use Rattle.c_reading.specs.declared.kinds.PostfixForm.{PostfixForm}
 use Rattle.c_reading.specs.declared.kinds.PostfixForm.TheVariants as forms
@@ -27,7 +27,7 @@ use Rattle.c_reading.specs.Parts.{Inner, nothing, type_name_height}
 use Rattle.c_reading.specs.Expressing as exprs
 use Rattle.c_reading.specs.Knot.{knot}
 use Rattle.reader_base.specs.declared.fault.ReadError.{ReadError}
-use Rattle.reader_base.specs.declared.place.Place.{Place}
+use Rattle.reader_base.specs.declared.cursor.Cursor.{Cursor}
 use Rattle.reader_base.specs.Gives.{Reads}
 use Rattle.reader_base.specs.Lent.{sized_type_name}
 use Rattle.reader_base.specs.Looping.{FailsTurn}
@@ -37,11 +37,11 @@ abbrev pub known_arguments : SizedExprs → CommaList Expr ⊥
 known_arguments es = record { items = map expr_of es.items.items; ending = None }
 
 -- arguments are read as the reader of lists gives them, as a state of the loop over them
-abbrev pub ReadsList : Place → Place → Result SizedExprs ReadError → Reader (CommaList Expr ⊥) → Type 0
+abbrev pub ReadsList : Cursor → Cursor → Result SizedExprs ReadError → Reader (CommaList Expr ⊥) → Type 0
 ReadsList before after result reader = Reads known_arguments before after result reader
 
 -- the arguments of a call are read so
-abbrev pub ReadsArguments : Place → Place → Result SizedExprs ReadError → Reader Exprs → Type 0
+abbrev pub ReadsArguments : Cursor → Cursor → Result SizedExprs ReadError → Reader Exprs → Type 0
 ReadsArguments before after result reader = Reads (λ es. lists.exprs_from es.items.items) before after result reader
 
 -- steps of an offset, as the state of the loop over them
@@ -49,11 +49,11 @@ abbrev pub known_steps : SizedSteps → List Desig
 known_steps steps = map desig_of steps.items.items
 
 -- a step of an offset is read so
-abbrev pub ReadsStep : Place → Place → Result SizedStep ReadError → Reader Desig → Type 0
+abbrev pub ReadsStep : Cursor → Cursor → Result SizedStep ReadError → Reader Desig → Type 0
 ReadsStep before after result reader = Reads (λ x. desig_of x.step) before after result reader
 
 -- the steps of an offset are read so
-abbrev pub ReadsSteps : Place → Place → Result SizedSteps ReadError → Reader (List Desig) → Type 0
+abbrev pub ReadsSteps : Cursor → Cursor → Result SizedSteps ReadError → Reader (List Desig) → Type 0
 ReadsSteps before after result reader = Reads known_steps before after result reader
 
 -- a further argument, behind a comma
@@ -62,7 +62,8 @@ argument_turn depth room known s ts = comma_turn (exprs.next_argument (knot dept
 
 -- the arguments behind the first, with that
 abbrev pub behind_argument : ℕ → SizedExpr → ℕ → Reader (CommaList Expr ⊥)
-behind_argument depth first room s ts = run (argument_turn depth room) (record { items = expr first ∷ []; ending = None }) s ts
+behind_argument depth first room s ts =
+    run (argument_turn depth room) (record { items = expr first ∷ []; ending = None }) s ts
 
 -- [assign (, assign)*]
 abbrev pub arguments_at : ℕ → ℕ → Reader Exprs
@@ -91,9 +92,11 @@ form_at depth form base room s ts = form_with (knot depth) form (expr base) room
 
 -- whatever the readers inside are, a turn reads this form, ends the loop, or fails so
 abbrev pub IsChosen : ℕ → Expr → List Lexeme → Result (Option PostfixForm) ReadError → Type 0
-IsChosen room e ts (Ok (Some form)) = (inner : Inner) (s : HeldScopes) → exprs.postfix_turn inner room e s ts ≡ Some (form_with inner form e room s ts)
+IsChosen room e ts (Ok (Some form)) =
+    (inner : Inner) (s : HeldScopes) → exprs.postfix_turn inner room e s ts ≡ Some (form_with inner form e room s ts)
 IsChosen room e ts (Ok None) = (inner : Inner) (s : HeldScopes) → exprs.postfix_turn inner room e s ts ≡ None
-IsChosen room e ts (Err fault) = (inner : Inner) (s : HeldScopes) → FailsTurn fault (exprs.postfix_turn inner room e s ts)
+IsChosen room e ts (Err fault) =
+    (inner : Inner) (s : HeldScopes) → FailsTurn fault (exprs.postfix_turn inner room e s ts)
 
 -- one postfix form behind an operand, by the token there
 abbrev pub form_turn : ℕ → ℕ → Turn Expr
@@ -117,15 +120,18 @@ text_at depth room s ts = exprs.text_with (knot depth) room s ts
 
 -- Compound = ( TypeName ) InitList, behind the parentheses
 abbrev pub compound_at : ℕ → ℕ → SizedTypeName → ℕ → ℕ → Reader Expr
-compound_at depth opening of closing room s ts = exprs.compound_with (knot depth) opening (sized_type_name of) closing room s ts
+compound_at depth opening of closing room s ts =
+    exprs.compound_with (knot depth) opening (sized_type_name of) closing room s ts
 
 -- Cast = ( TypeName ) cast, behind the parentheses
 abbrev pub cast_behind_at : ℕ → ℕ → SizedTypeName → ℕ → ℕ → Reader Expr
-cast_behind_at depth opening of closing room s ts = exprs.cast_behind (knot depth) opening (sized_type_name of) closing room s ts
+cast_behind_at depth opening of closing room s ts =
+    exprs.cast_behind (knot depth) opening (sized_type_name of) closing room s ts
 
 -- a compound literal, or a cast where one may stand, behind a type name in parentheses
 abbrev pub typed_behind_at : ℕ → Bool → ℕ → SizedTypeName → ℕ → ℕ → Reader Expr
-typed_behind_at depth casts opening of closing room s ts = exprs.typed_behind (knot depth) casts opening (sized_type_name of) closing room s ts
+typed_behind_at depth casts opening of closing room s ts =
+    exprs.typed_behind (knot depth) casts opening (sized_type_name of) closing room s ts
 
 -- TypeName ) and what stands behind it, behind the opening parenthesis
 abbrev pub typed_at : ℕ → Bool → ℕ → ℕ → Reader Expr
@@ -163,11 +169,13 @@ sizeof_value_at depth word room s ts = exprs.sizeof_value_with (knot depth) word
 abbrev pub sizeof_literal_at : ℕ → Word → ℕ → SizedTypeName → ℕ → ℕ → Reader Expr
 sizeof_literal_at depth word opening of closing room s ts =
     fits (2 + type_name_height (sized_type_name of)) room ts
-    (exprs.compound_with (knot depth) opening (sized_type_name of) closing (room - 1) s ts >>= λ e. ends (sizeof_value word e.tree) e.scopes e.rest)
+    (exprs.compound_with (knot depth) opening (sized_type_name of) closing (room - 1) s ts >>= λ e.
+    ends (sizeof_value word e.tree) e.scopes e.rest)
 
 -- SizeofType, or that with a compound literal, behind the type name in parentheses
 abbrev pub sizeof_typed_at : ℕ → Word → ℕ → SizedTypeName → ℕ → ℕ → Reader Expr
-sizeof_typed_at depth word opening of closing room s ts = exprs.sizeof_typed (knot depth) word opening (sized_type_name of) closing room s ts
+sizeof_typed_at depth word opening of closing room s ts =
+    exprs.sizeof_typed (knot depth) word opening (sized_type_name of) closing room s ts
 
 -- SizeofType = (sizeof | alignof) ( TypeName ), behind the word
 abbrev pub sizeof_type_at : ℕ → Word → ℕ → Reader Expr
@@ -176,7 +184,8 @@ sizeof_type_at depth word room s ts = exprs.sizeof_type_with (knot depth) word r
 -- behind the word, where a parenthesis stands
 abbrev pub sizeof_opened_at : ℕ → Word → ℕ → Reader Expr
 sizeof_opened_at depth word room s ts =
-    fits 3 room ts (if begins_specs s (kind_at (behind_first ts)) then exprs.sizeof_type_with (knot depth) word room s ts else exprs.sizeof_value_with (knot depth) word room s ts)
+    fits 3 room ts (if begins_specs s (kind_at (behind_first ts))
+    then exprs.sizeof_type_with (knot depth) word room s ts else exprs.sizeof_value_with (knot depth) word room s ts)
 
 -- behind the word, by the tokens there
 abbrev pub sizeof_behind_at : ℕ → Word → ℕ → Reader Expr
@@ -196,12 +205,15 @@ va_two_at depth make room s ts = exprs.va_two_with (knot depth) make room s ts
 
 -- a step of an offset: . Name
 abbrev pub member_step_at : Reader Desig
-member_step_at s ts = take_one s ts >>= λ token. name_here token.scopes token.rest >>= λ name. ends (member_desig token.tree name.tree) name.scopes name.rest
+member_step_at s ts =
+    take_one s ts >>= λ token. name_here token.scopes token.rest >>= λ name.
+    ends (member_desig token.tree name.tree) name.scopes name.rest
 
 -- a step of an offset: [ expr ]
 abbrev pub index_step_at : ℕ → ℕ → Reader Desig
 index_step_at depth room s ts =
-    take_one s ts >>= λ opening. (knot depth).expr Whole nothing (room - 1) opening.scopes opening.rest >>= λ e. token_at is_close_bracket e.scopes e.rest >>= λ closing.
+    take_one s ts >>= λ opening. (knot depth).expr Whole nothing (room - 1) opening.scopes opening.rest >>= λ e.
+    token_at is_close_bracket e.scopes e.rest >>= λ closing.
     ends (index_desig opening.tree e.tree closing.tree) closing.scopes closing.rest
 
 -- a step of an offset, by its first token

@@ -8,11 +8,11 @@ use Rattle.c_reading.specs.Reading.{Reader, Turn, CommaList, comma_turn, listed,
 use Rattle.c_reading.specs.Expressing as exprs
 use Rattle.c_reading.specs.Knot.{knot}
 use Rattle.reader_base.specs.declared.fault.ReadError.{ReadError}
-use Rattle.reader_base.specs.declared.place.Place.{Place}
+use Rattle.reader_base.specs.declared.cursor.Cursor.{Cursor}
 use Rattle.reader_base.specs.Gives.{Reads}
 
 -- an association is read as the reader of lists gives it
-abbrev pub ReadsAssoc : Place → Place → Result SizedAssoc ReadError → Reader Assoc → Type 0
+abbrev pub ReadsAssoc : Cursor → Cursor → Result SizedAssoc ReadError → Reader Assoc → Type 0
 ReadsAssoc before after result reader = Reads (λ x. assoc_of x.assoc) before after result reader
 
 -- associations, as the state of the loop over them
@@ -20,7 +20,7 @@ abbrev pub known_assocs : SizedAssocs → CommaList Assoc ⊥
 known_assocs xs = record { items = map assoc_of xs.items.items; ending = None }
 
 -- associations are read so, as a state of the loop over them
-abbrev pub ReadsAssocList : Place → Place → Result SizedAssocs ReadError → Reader (CommaList Assoc ⊥) → Type 0
+abbrev pub ReadsAssocList : Cursor → Cursor → Result SizedAssocs ReadError → Reader (CommaList Assoc ⊥) → Type 0
 ReadsAssocList before after result reader = Reads known_assocs before after result reader
 
 -- a further association, behind a comma
@@ -29,7 +29,8 @@ assoc_turn depth room known s ts = comma_turn (exprs.next_assoc (knot depth) roo
 
 -- the associations behind the first, with that
 abbrev pub behind_assoc : ℕ → SizedAssoc → ℕ → Reader (CommaList Assoc ⊥)
-behind_assoc depth first room s ts = run (assoc_turn depth room) (record { items = assoc_of first.assoc ∷ []; ending = None }) s ts
+behind_assoc depth first room s ts =
+    run (assoc_turn depth room) (record { items = assoc_of first.assoc ∷ []; ending = None }) s ts
 
 -- all associations
 abbrev pub assocs_at : ℕ → ℕ → Reader (CommaList Assoc ⊥)

@@ -8,7 +8,7 @@ ghost use Rattle.expr_forms.specs.Parts.{known_arguments, ReadsArguments, ReadsL
 use c_nodes::{SizedExpr, SizedExprs};
 use c_reading::{Reach, turns_take_tokens};
 use reader_base::{
-    Answer, Ask, Begun, Place, ReadError, expr_inside, is_close_paren, is_comma, kind_at,
+    Answer, Ask, Begun, Cursor, ReadError, expr_inside, is_close_paren, is_comma, kind_at,
 };
 
 /// Each argument that is read takes a token.
@@ -24,24 +24,24 @@ fn argument<'a, F>(
     lent: &F,
     known: &mut SizedExprs,
     room: u16,
-    place: &mut Place<'a>,
+    cursor: &mut Cursor<'a>,
     depth: u32,
 ) -> Result<bool, ReadError>
 where
-    F: Fn(Ask, &mut Place<'a>) -> Result<Answer, ReadError>,
+    F: Fn(Ask, &mut Cursor<'a>) -> Result<Answer, ReadError>,
     requires { Lends F.Fn lent.now depth }
-    ensures { Turns (known_arguments known.old) (known_arguments known.new) place.old place.new
+    ensures { Turns (known_arguments known.old) (known_arguments known.new) cursor.old cursor.new
         result (argument_turn depth room) }
 {
-    let [first, rest @ ..] = place.rest else {
+    let [first, rest @ ..] = cursor.rest else {
         return Ok(false);
     };
     if !is_comma(first.kind) {
         return Ok(false);
     }
-    place.rest = rest;
+    cursor.rest = rest;
     let inside = room.saturating_sub(1);
-    let next = expr_inside(lent, Reach::Assigned, Begun::Nothing, inside, place, depth)?;
+    let next = expr_inside(lent, Reach::Assigned, Begun::Nothing, inside, cursor, depth)?;
     known.push(next)?;
     Ok(true)
 }
@@ -51,18 +51,18 @@ fn more_arguments<'a, F>(
     lent: &F,
     first: SizedExpr,
     room: u16,
-    place: &mut Place<'a>,
+    cursor: &mut Cursor<'a>,
     depth: u32,
 ) -> Result<SizedExprs, ReadError>
 where
-    F: Fn(Ask, &mut Place<'a>) -> Result<Answer, ReadError>,
+    F: Fn(Ask, &mut Cursor<'a>) -> Result<Answer, ReadError>,
     requires { Lends F.Fn lent.now depth }
-    ensures { ReadsList place.old place.new result (behind_argument depth first room) }
+    ensures { ReadsList cursor.old cursor.new result (behind_argument depth first room) }
 {
     arguments_step(room, depth);
-    let mut known = SizedExprs::new(place.alloc);
+    let mut known = SizedExprs::new(cursor.alloc);
     known.push(first)?;
-    while argument(lent, &mut known, room, place, depth)? {}
+    while argument(lent, &mut known, room, cursor, depth)? {}
     Ok(known)
 }
 
@@ -71,18 +71,18 @@ where
 pub(crate) fn arguments<'a, F>(
     lent: &F,
     room: u16,
-    place: &mut Place<'a>,
+    cursor: &mut Cursor<'a>,
     depth: u32,
 ) -> Result<SizedExprs, ReadError>
 where
-    F: Fn(Ask, &mut Place<'a>) -> Result<Answer, ReadError>,
+    F: Fn(Ask, &mut Cursor<'a>) -> Result<Answer, ReadError>,
     requires { Lends F.Fn lent.now depth }
-    ensures { ReadsArguments place.old place.new result (arguments_at depth room) }
+    ensures { ReadsArguments cursor.old cursor.new result (arguments_at depth room) }
 {
-    if is_close_paren(kind_at(place.rest)) {
-        return Ok(SizedExprs::new(place.alloc));
+    if is_close_paren(kind_at(cursor.rest)) {
+        return Ok(SizedExprs::new(cursor.alloc));
     }
     let inside = room.saturating_sub(1);
-    let first = expr_inside(lent, Reach::Assigned, Begun::Nothing, inside, place, depth)?;
-    more_arguments(lent, first, room, place, depth)
+    let first = expr_inside(lent, Reach::Assigned, Begun::Nothing, inside, cursor, depth)?;
+    more_arguments(lent, first, room, cursor, depth)
 }

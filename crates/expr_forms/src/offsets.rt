@@ -9,7 +9,7 @@ use crate::postfix::postfixed;
 use c_nodes::{SizedExpr, SizedStep, SizedSteps};
 use c_reading::{Reach, turns_take_tokens};
 use reader_base::{
-    Answer, Ask, Begun, Place, ReadError, begins_desig, close_bracket, close_paren, comma,
+    Answer, Ask, Begun, Cursor, ReadError, begins_desig, close_bracket, close_paren, comma,
     expr_inside, is_dot, kind_at, name, open_paren, room_for, take_one, type_name_inside,
 };
 
@@ -22,11 +22,11 @@ fn steps_step(room: u16, depth: u32)
 
 /// `. Name`.
 #[tactic(auto, unfolding(c_reading::specs::Reading::and_then))]
-fn member_step(place: &mut Place) -> Result<SizedStep, ReadError>
-    ensures { ReadsStep place.old place.new result member_step_at }
+fn member_step(cursor: &mut Cursor) -> Result<SizedStep, ReadError>
+    ensures { ReadsStep cursor.old cursor.new result member_step_at }
 {
-    let dot = take_one(place)?;
-    let name = name(place)?;
+    let dot = take_one(cursor)?;
+    let name = name(cursor)?;
     Ok(c_nodes::member_step(dot, name))
 }
 
@@ -35,18 +35,18 @@ fn member_step(place: &mut Place) -> Result<SizedStep, ReadError>
 fn index_step<'a, F>(
     lent: &F,
     room: u16,
-    place: &mut Place<'a>,
+    cursor: &mut Cursor<'a>,
     depth: u32,
 ) -> Result<SizedStep, ReadError>
 where
-    F: Fn(Ask, &mut Place<'a>) -> Result<Answer, ReadError>,
+    F: Fn(Ask, &mut Cursor<'a>) -> Result<Answer, ReadError>,
     requires { Lends F.Fn lent.now depth }
-    ensures { ReadsStep place.old place.new result (index_step_at depth room) }
+    ensures { ReadsStep cursor.old cursor.new result (index_step_at depth room) }
 {
-    let opening = take_one(place)?;
+    let opening = take_one(cursor)?;
     let inside = room.saturating_sub(1);
-    let index = expr_inside(lent, Reach::Whole, Begun::Nothing, inside, place, depth)?;
-    let closing = close_bracket(place)?;
+    let index = expr_inside(lent, Reach::Whole, Begun::Nothing, inside, cursor, depth)?;
+    let closing = close_bracket(cursor)?;
     Ok(c_nodes::index_step(opening, index, closing))
 }
 
@@ -55,18 +55,18 @@ where
 fn step<'a, F>(
     lent: &F,
     room: u16,
-    place: &mut Place<'a>,
+    cursor: &mut Cursor<'a>,
     depth: u32,
 ) -> Result<SizedStep, ReadError>
 where
-    F: Fn(Ask, &mut Place<'a>) -> Result<Answer, ReadError>,
+    F: Fn(Ask, &mut Cursor<'a>) -> Result<Answer, ReadError>,
     requires { Lends F.Fn lent.now depth }
-    ensures { ReadsStep place.old place.new result (step_at depth room) }
+    ensures { ReadsStep cursor.old cursor.new result (step_at depth room) }
 {
-    if is_dot(kind_at(place.rest)) {
-        member_step(place)
+    if is_dot(kind_at(cursor.rest)) {
+        member_step(cursor)
     } else {
-        index_step(lent, room, place, depth)
+        index_step(lent, room, cursor, depth)
     }
 }
 
@@ -76,19 +76,19 @@ fn step_turn<'a, F>(
     lent: &F,
     known: &mut SizedSteps,
     room: u16,
-    place: &mut Place<'a>,
+    cursor: &mut Cursor<'a>,
     depth: u32,
 ) -> Result<bool, ReadError>
 where
-    F: Fn(Ask, &mut Place<'a>) -> Result<Answer, ReadError>,
+    F: Fn(Ask, &mut Cursor<'a>) -> Result<Answer, ReadError>,
     requires { Lends F.Fn lent.now depth }
-    ensures { Turns (known_steps known.old) (known_steps known.new) place.old place.new
+    ensures { Turns (known_steps known.old) (known_steps known.new) cursor.old cursor.new
         result (step_turn depth room) }
 {
-    if !begins_desig(kind_at(place.rest)) {
+    if !begins_desig(kind_at(cursor.rest)) {
         return Ok(false);
     }
-    let next = step(lent, room, place, depth)?;
+    let next = step(lent, room, cursor, depth)?;
     known.push(next)?;
     Ok(true)
 }
@@ -98,17 +98,17 @@ where
 fn steps<'a, F>(
     lent: &F,
     room: u16,
-    place: &mut Place<'a>,
+    cursor: &mut Cursor<'a>,
     depth: u32,
 ) -> Result<SizedSteps, ReadError>
 where
-    F: Fn(Ask, &mut Place<'a>) -> Result<Answer, ReadError>,
+    F: Fn(Ask, &mut Cursor<'a>) -> Result<Answer, ReadError>,
     requires { Lends F.Fn lent.now depth }
-    ensures { ReadsSteps place.old place.new result (steps_at depth room) }
+    ensures { ReadsSteps cursor.old cursor.new result (steps_at depth room) }
 {
     steps_step(room, depth);
-    let mut known = SizedSteps::new(place.alloc);
-    while step_turn(lent, &mut known, room, place, depth)? {}
+    let mut known = SizedSteps::new(cursor.alloc);
+    while step_turn(lent, &mut known, room, cursor, depth)? {}
     Ok(known)
 }
 
@@ -118,25 +118,25 @@ where
 pub(crate) fn offset<'a, F>(
     lent: &F,
     room: u16,
-    place: &mut Place<'a>,
+    cursor: &mut Cursor<'a>,
     depth: u32,
 ) -> Result<SizedExpr, ReadError>
 where
-    F: Fn(Ask, &mut Place<'a>) -> Result<Answer, ReadError>,
+    F: Fn(Ask, &mut Cursor<'a>) -> Result<Answer, ReadError>,
     requires { Lends F.Fn lent.now depth }
-    ensures { ReadsExpr place.old place.new result (offset_at depth room) }
+    ensures { ReadsExpr cursor.old cursor.new result (offset_at depth room) }
 {
-    room_for(3, room, place)?;
+    room_for(3, room, cursor)?;
     let inside = room.saturating_sub(1);
-    let keyword = take_one(place)?;
-    let opening = open_paren(place)?;
-    let of = type_name_inside(lent, inside, place, depth)?;
-    let separator = comma(place)?;
-    let member = name(place)?;
-    let steps = steps(lent, room, place, depth)?;
-    let closing = close_paren(place)?;
+    let keyword = take_one(cursor)?;
+    let opening = open_paren(cursor)?;
+    let of = type_name_inside(lent, inside, cursor, depth)?;
+    let separator = comma(cursor)?;
+    let member = name(cursor)?;
+    let steps = steps(lent, room, cursor, depth)?;
+    let closing = close_paren(cursor)?;
     let made = c_nodes::offset(
-        place.alloc,
+        cursor.alloc,
         keyword,
         opening,
         of,
@@ -145,5 +145,5 @@ where
         steps,
         closing,
     )?;
-    postfixed(lent, made, room, place, depth)
+    postfixed(lent, made, room, cursor, depth)
 }

@@ -11,8 +11,8 @@ use crate::primaries::{character, named, number, text};
 use crate::sizes::sizeof;
 use crate::variadic::{va_arg, va_copy, va_start};
 use c_nodes::SizedExpr;
-use c_reading::{Fault, Opening};
-use reader_base::{Answer, Ask, Place, ReadError, is_open_paren, kind_at, opening_of, refused};
+use c_reading::{FaultKind, Opening};
+use reader_base::{Answer, Ask, Cursor, ReadError, is_open_paren, kind_at, opening_of, refused};
 
 /// A unary form by what it begins with.
 #[tactic(auto, unfolding(c_reading::specs::Expressing::unary_by))]
@@ -20,33 +20,33 @@ fn unary_by<'a, F>(
     lent: &F,
     opening: Opening,
     room: u16,
-    place: &mut Place<'a>,
+    cursor: &mut Cursor<'a>,
     depth: u32,
 ) -> Result<SizedExpr, ReadError>
 where
-    F: Fn(Ask, &mut Place<'a>) -> Result<Answer, ReadError>,
+    F: Fn(Ask, &mut Cursor<'a>) -> Result<Answer, ReadError>,
     requires { Lends F.Fn lent.now depth }
-    ensures { ReadsExpr place.old place.new result (unary_by_at depth opening room) }
+    ensures { ReadsExpr cursor.old cursor.new result (unary_by_at depth opening room) }
 {
     match opening {
-        Opening::Prefix(sign, reach) => prefix(lent, sign, reach, room, place, depth),
-        Opening::Sizeof(keyword) => sizeof(lent, keyword, room, place, depth),
-        Opening::Extension => extension(lent, room, place, depth),
-        Opening::Name(name) => named(lent, name, room, place, depth),
-        Opening::Number => number(lent, room, place, depth),
-        Opening::Char => character(lent, room, place, depth),
-        Opening::Text => text(lent, room, place, depth),
-        Opening::Paren => opened(lent, false, room, place, depth),
-        Opening::VaArg => va_arg(lent, room, place, depth),
-        Opening::VaStart => va_start(lent, room, place, depth),
-        Opening::VaCopy => va_copy(lent, room, place, depth),
-        Opening::Offset => offset(lent, room, place, depth),
-        Opening::Part => part(lent, room, place, depth),
-        Opening::Label => label_use(room, place, depth),
-        Opening::Compat => compat(lent, room, place, depth),
-        Opening::Choose => choose(lent, room, place, depth),
-        Opening::Generic => generic(lent, room, place, depth),
-        Opening::Nothing => Err(refused(Fault::Unexpected, place.rest)),
+        Opening::Prefix(sign, reach) => prefix(lent, sign, reach, room, cursor, depth),
+        Opening::Sizeof(keyword) => sizeof(lent, keyword, room, cursor, depth),
+        Opening::Extension => extension(lent, room, cursor, depth),
+        Opening::Name(name) => named(lent, name, room, cursor, depth),
+        Opening::Number => number(lent, room, cursor, depth),
+        Opening::Char => character(lent, room, cursor, depth),
+        Opening::Text => text(lent, room, cursor, depth),
+        Opening::Paren => opened(lent, false, room, cursor, depth),
+        Opening::VaArg => va_arg(lent, room, cursor, depth),
+        Opening::VaStart => va_start(lent, room, cursor, depth),
+        Opening::VaCopy => va_copy(lent, room, cursor, depth),
+        Opening::Offset => offset(lent, room, cursor, depth),
+        Opening::Part => part(lent, room, cursor, depth),
+        Opening::Label => label_use(room, cursor, depth),
+        Opening::Compat => compat(lent, room, cursor, depth),
+        Opening::Choose => choose(lent, room, cursor, depth),
+        Opening::Generic => generic(lent, room, cursor, depth),
+        Opening::Nothing => Err(refused(FaultKind::Unexpected, cursor.rest)),
     }
 }
 
@@ -57,15 +57,15 @@ where
 pub fn unary<'a, F>(
     lent: &F,
     room: u16,
-    place: &mut Place<'a>,
+    cursor: &mut Cursor<'a>,
     depth: u32,
 ) -> Result<SizedExpr, ReadError>
 where
-    F: Fn(Ask, &mut Place<'a>) -> Result<Answer, ReadError>,
+    F: Fn(Ask, &mut Cursor<'a>) -> Result<Answer, ReadError>,
     requires { Lends F.Fn lent.now depth }
-    ensures { ReadsExpr place.old place.new result (unary_at depth room) }
+    ensures { ReadsExpr cursor.old cursor.new result (unary_at depth room) }
 {
-    unary_by(lent, opening_of(kind_at(place.rest)), room, place, depth)
+    unary_by(lent, opening_of(kind_at(cursor.rest)), room, cursor, depth)
 }
 
 /// A cast or a unary form (C99, 6.5.4): `cast = unary | Cast`.
@@ -75,17 +75,17 @@ where
 pub fn cast<'a, F>(
     lent: &F,
     room: u16,
-    place: &mut Place<'a>,
+    cursor: &mut Cursor<'a>,
     depth: u32,
 ) -> Result<SizedExpr, ReadError>
 where
-    F: Fn(Ask, &mut Place<'a>) -> Result<Answer, ReadError>,
+    F: Fn(Ask, &mut Cursor<'a>) -> Result<Answer, ReadError>,
     requires { Lends F.Fn lent.now depth }
-    ensures { ReadsExpr place.old place.new result (cast_at depth room) }
+    ensures { ReadsExpr cursor.old cursor.new result (cast_at depth room) }
 {
-    if is_open_paren(kind_at(place.rest)) {
-        opened(lent, true, room, place, depth)
+    if is_open_paren(kind_at(cursor.rest)) {
+        opened(lent, true, room, cursor, depth)
     } else {
-        unary(lent, room, place, depth)
+        unary(lent, room, cursor, depth)
     }
 }

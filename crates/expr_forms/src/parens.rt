@@ -6,10 +6,10 @@ ghost use Rattle.expr_forms.specs.Parts.{paren_at, statement_at, typed_at, typed
 
 use crate::postfix::postfixed;
 use c_nodes::{SizedExpr, SizedTypeName};
-use c_reading::{Fault, Reach};
+use c_reading::{FaultKind, Reach};
 use qual_base::TokenId;
 use reader_base::{
-    Answer, Ask, Begun, Place, ReadError, begins_specs, block_inside, close_paren, expr_inside,
+    Answer, Ask, Begun, Cursor, ReadError, begins_specs, block_inside, close_paren, expr_inside,
     init_list_inside, is_open_brace, kind_at, refused, room_for, take_one, type_name_inside,
 };
 
@@ -21,18 +21,18 @@ pub(crate) fn compound<'a, F>(
     of: SizedTypeName,
     closing: TokenId,
     room: u16,
-    place: &mut Place<'a>,
+    cursor: &mut Cursor<'a>,
     depth: u32,
 ) -> Result<SizedExpr, ReadError>
 where
-    F: Fn(Ask, &mut Place<'a>) -> Result<Answer, ReadError>,
+    F: Fn(Ask, &mut Cursor<'a>) -> Result<Answer, ReadError>,
     requires { Lends F.Fn lent.now depth }
-    ensures { ReadsExpr place.old place.new result (compound_at depth opening of closing room) }
+    ensures { ReadsExpr cursor.old cursor.new result (compound_at depth opening of closing room) }
 {
     let inside = room.saturating_sub(1);
-    let list = init_list_inside(lent, inside, place, depth)?;
-    let made = c_nodes::compound(place.alloc, opening, of, closing, list)?;
-    postfixed(lent, made, room, place, depth)
+    let list = init_list_inside(lent, inside, cursor, depth)?;
+    let made = c_nodes::compound(cursor.alloc, opening, of, closing, list)?;
+    postfixed(lent, made, room, cursor, depth)
 }
 
 /// A cast behind its parentheses (C99, 6.5.4): `Cast = ( TypeName ) cast`.
@@ -43,17 +43,18 @@ fn cast_behind<'a, F>(
     of: SizedTypeName,
     closing: TokenId,
     room: u16,
-    place: &mut Place<'a>,
+    cursor: &mut Cursor<'a>,
     depth: u32,
 ) -> Result<SizedExpr, ReadError>
 where
-    F: Fn(Ask, &mut Place<'a>) -> Result<Answer, ReadError>,
+    F: Fn(Ask, &mut Cursor<'a>) -> Result<Answer, ReadError>,
     requires { Lends F.Fn lent.now depth }
-    ensures { ReadsExpr place.old place.new result (cast_behind_at depth opening of closing room) }
+    ensures { ReadsExpr cursor.old cursor.new result
+        (cast_behind_at depth opening of closing room) }
 {
     let inside = room.saturating_sub(1);
-    let operand = expr_inside(lent, Reach::Castable, Begun::Nothing, inside, place, depth)?;
-    Ok(c_nodes::cast(place.alloc, opening, of, closing, operand)?)
+    let operand = expr_inside(lent, Reach::Castable, Begun::Nothing, inside, cursor, depth)?;
+    Ok(c_nodes::cast(cursor.alloc, opening, of, closing, operand)?)
 }
 
 /// Behind the name of a type in parentheses, where a cast stands only if one is wanted.
@@ -65,21 +66,21 @@ fn typed_behind<'a, F>(
     of: SizedTypeName,
     closing: TokenId,
     room: u16,
-    place: &mut Place<'a>,
+    cursor: &mut Cursor<'a>,
     depth: u32,
 ) -> Result<SizedExpr, ReadError>
 where
-    F: Fn(Ask, &mut Place<'a>) -> Result<Answer, ReadError>,
+    F: Fn(Ask, &mut Cursor<'a>) -> Result<Answer, ReadError>,
     requires { Lends F.Fn lent.now depth }
-    ensures { ReadsExpr place.old place.new result
+    ensures { ReadsExpr cursor.old cursor.new result
         (typed_behind_at depth casts opening of closing room) }
 {
-    if is_open_brace(kind_at(place.rest)) {
-        compound(lent, opening, of, closing, room, place, depth)
+    if is_open_brace(kind_at(cursor.rest)) {
+        compound(lent, opening, of, closing, room, cursor, depth)
     } else if casts {
-        cast_behind(lent, opening, of, closing, room, place, depth)
+        cast_behind(lent, opening, of, closing, room, cursor, depth)
     } else {
-        Err(refused(Fault::Unexpected, place.rest))
+        Err(refused(FaultKind::Unexpected, cursor.rest))
     }
 }
 
@@ -90,18 +91,18 @@ fn typed<'a, F>(
     casts: bool,
     opening: TokenId,
     room: u16,
-    place: &mut Place<'a>,
+    cursor: &mut Cursor<'a>,
     depth: u32,
 ) -> Result<SizedExpr, ReadError>
 where
-    F: Fn(Ask, &mut Place<'a>) -> Result<Answer, ReadError>,
+    F: Fn(Ask, &mut Cursor<'a>) -> Result<Answer, ReadError>,
     requires { Lends F.Fn lent.now depth }
-    ensures { ReadsExpr place.old place.new result (typed_at depth casts opening room) }
+    ensures { ReadsExpr cursor.old cursor.new result (typed_at depth casts opening room) }
 {
     let inside = room.saturating_sub(1);
-    let of = type_name_inside(lent, inside, place, depth)?;
-    let closing = close_paren(place)?;
-    typed_behind(lent, casts, opening, of, closing, room, place, depth)
+    let of = type_name_inside(lent, inside, cursor, depth)?;
+    let closing = close_paren(cursor)?;
+    typed_behind(lent, casts, opening, of, closing, room, cursor, depth)
 }
 
 /// A statement expression behind its parenthesis: `StmtExpr = ( Block )`.
@@ -110,19 +111,19 @@ fn statement<'a, F>(
     lent: &F,
     opening: TokenId,
     room: u16,
-    place: &mut Place<'a>,
+    cursor: &mut Cursor<'a>,
     depth: u32,
 ) -> Result<SizedExpr, ReadError>
 where
-    F: Fn(Ask, &mut Place<'a>) -> Result<Answer, ReadError>,
+    F: Fn(Ask, &mut Cursor<'a>) -> Result<Answer, ReadError>,
     requires { Lends F.Fn lent.now depth }
-    ensures { ReadsExpr place.old place.new result (statement_at depth opening room) }
+    ensures { ReadsExpr cursor.old cursor.new result (statement_at depth opening room) }
 {
     let inside = room.saturating_sub(1);
-    let block = block_inside(lent, inside, place, depth)?;
-    let closing = close_paren(place)?;
-    let made = c_nodes::statement_expr(place.alloc, opening, block, closing)?;
-    postfixed(lent, made, room, place, depth)
+    let block = block_inside(lent, inside, cursor, depth)?;
+    let closing = close_paren(cursor)?;
+    let made = c_nodes::statement_expr(cursor.alloc, opening, block, closing)?;
+    postfixed(lent, made, room, cursor, depth)
 }
 
 /// An expression in parentheses, behind the first: `Paren = ( expr )`.
@@ -131,19 +132,19 @@ fn paren<'a, F>(
     lent: &F,
     opening: TokenId,
     room: u16,
-    place: &mut Place<'a>,
+    cursor: &mut Cursor<'a>,
     depth: u32,
 ) -> Result<SizedExpr, ReadError>
 where
-    F: Fn(Ask, &mut Place<'a>) -> Result<Answer, ReadError>,
+    F: Fn(Ask, &mut Cursor<'a>) -> Result<Answer, ReadError>,
     requires { Lends F.Fn lent.now depth }
-    ensures { ReadsExpr place.old place.new result (paren_at depth opening room) }
+    ensures { ReadsExpr cursor.old cursor.new result (paren_at depth opening room) }
 {
     let inside = room.saturating_sub(1);
-    let inner = expr_inside(lent, Reach::Whole, Begun::Nothing, inside, place, depth)?;
-    let closing = close_paren(place)?;
-    let made = c_nodes::paren(place.alloc, opening, inner, closing)?;
-    postfixed(lent, made, room, place, depth)
+    let inner = expr_inside(lent, Reach::Whole, Begun::Nothing, inside, cursor, depth)?;
+    let closing = close_paren(cursor)?;
+    let made = c_nodes::paren(cursor.alloc, opening, inner, closing)?;
+    postfixed(lent, made, room, cursor, depth)
 }
 
 /// Behind a parenthesis, by the token there.
@@ -153,20 +154,20 @@ fn opened_by<'a, F>(
     casts: bool,
     opening: TokenId,
     room: u16,
-    place: &mut Place<'a>,
+    cursor: &mut Cursor<'a>,
     depth: u32,
 ) -> Result<SizedExpr, ReadError>
 where
-    F: Fn(Ask, &mut Place<'a>) -> Result<Answer, ReadError>,
+    F: Fn(Ask, &mut Cursor<'a>) -> Result<Answer, ReadError>,
     requires { Lends F.Fn lent.now depth }
-    ensures { ReadsExpr place.old place.new result (opened_by_at depth casts opening room) }
+    ensures { ReadsExpr cursor.old cursor.new result (opened_by_at depth casts opening room) }
 {
-    if begins_specs(&place.scopes, kind_at(place.rest)) {
-        typed(lent, casts, opening, room, place, depth)
-    } else if is_open_brace(kind_at(place.rest)) {
-        statement(lent, opening, room, place, depth)
+    if begins_specs(&cursor.scopes, kind_at(cursor.rest)) {
+        typed(lent, casts, opening, room, cursor, depth)
+    } else if is_open_brace(kind_at(cursor.rest)) {
+        statement(lent, opening, room, cursor, depth)
     } else {
-        paren(lent, opening, room, place, depth)
+        paren(lent, opening, room, cursor, depth)
     }
 }
 
@@ -177,15 +178,15 @@ pub(crate) fn opened<'a, F>(
     lent: &F,
     casts: bool,
     room: u16,
-    place: &mut Place<'a>,
+    cursor: &mut Cursor<'a>,
     depth: u32,
 ) -> Result<SizedExpr, ReadError>
 where
-    F: Fn(Ask, &mut Place<'a>) -> Result<Answer, ReadError>,
+    F: Fn(Ask, &mut Cursor<'a>) -> Result<Answer, ReadError>,
     requires { Lends F.Fn lent.now depth }
-    ensures { ReadsExpr place.old place.new result (opened_at depth casts room) }
+    ensures { ReadsExpr cursor.old cursor.new result (opened_at depth casts room) }
 {
-    room_for(2, room, place)?;
-    let opening = take_one(place)?;
-    opened_by(lent, casts, opening, room, place, depth)
+    room_for(2, room, cursor)?;
+    let opening = take_one(cursor)?;
+    opened_by(lent, casts, opening, room, cursor, depth)
 }

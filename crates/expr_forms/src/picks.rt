@@ -9,9 +9,9 @@ ghost use Rattle.expr_forms.specs.Picks.{ReadsAssoc, ReadsAssocList, assoc_turn,
 
 use crate::postfix::postfixed;
 use c_nodes::{SizedAssoc, SizedAssocs, SizedExpr};
-use c_reading::{Fault, Reach, Role, turns_take_tokens};
+use c_reading::{FaultKind, Reach, Role, turns_take_tokens};
 use reader_base::{
-    Answer, Ask, Begun, Place, ReadError, begins_role, close_paren, colon, comma, expr_inside,
+    Answer, Ask, Begun, Cursor, ReadError, begins_role, close_paren, colon, comma, expr_inside,
     is_comma, is_default, kind_at, open_paren, refused, room_for, take_one, type_name_inside,
 };
 
@@ -20,24 +20,24 @@ use reader_base::{
 pub(crate) fn compat<'a, F>(
     lent: &F,
     room: u16,
-    place: &mut Place<'a>,
+    cursor: &mut Cursor<'a>,
     depth: u32,
 ) -> Result<SizedExpr, ReadError>
 where
-    F: Fn(Ask, &mut Place<'a>) -> Result<Answer, ReadError>,
+    F: Fn(Ask, &mut Cursor<'a>) -> Result<Answer, ReadError>,
     requires { Lends F.Fn lent.now depth }
-    ensures { ReadsExpr place.old place.new result (exprs.compat_with (knot depth) room) }
+    ensures { ReadsExpr cursor.old cursor.new result (exprs.compat_with (knot depth) room) }
 {
-    room_for(3, room, place)?;
+    room_for(3, room, cursor)?;
     let inside = room.saturating_sub(1);
-    let keyword = take_one(place)?;
-    let opening = open_paren(place)?;
-    let left = type_name_inside(lent, inside, place, depth)?;
-    let separator = comma(place)?;
-    let right = type_name_inside(lent, inside, place, depth)?;
-    let closing = close_paren(place)?;
+    let keyword = take_one(cursor)?;
+    let opening = open_paren(cursor)?;
+    let left = type_name_inside(lent, inside, cursor, depth)?;
+    let separator = comma(cursor)?;
+    let right = type_name_inside(lent, inside, cursor, depth)?;
+    let closing = close_paren(cursor)?;
     let made = c_nodes::compat(
-        place.alloc,
+        cursor.alloc,
         keyword,
         opening,
         left,
@@ -45,7 +45,7 @@ where
         right,
         closing,
     )?;
-    postfixed(lent, made, room, place, depth)
+    postfixed(lent, made, room, cursor, depth)
 }
 
 /// `Choose = __builtin_choose_expr ( assign , assign , assign )`, with its postfix forms.
@@ -53,26 +53,26 @@ where
 pub(crate) fn choose<'a, F>(
     lent: &F,
     room: u16,
-    place: &mut Place<'a>,
+    cursor: &mut Cursor<'a>,
     depth: u32,
 ) -> Result<SizedExpr, ReadError>
 where
-    F: Fn(Ask, &mut Place<'a>) -> Result<Answer, ReadError>,
+    F: Fn(Ask, &mut Cursor<'a>) -> Result<Answer, ReadError>,
     requires { Lends F.Fn lent.now depth }
-    ensures { ReadsExpr place.old place.new result (exprs.choose_with (knot depth) room) }
+    ensures { ReadsExpr cursor.old cursor.new result (exprs.choose_with (knot depth) room) }
 {
-    room_for(2, room, place)?;
+    room_for(2, room, cursor)?;
     let inside = room.saturating_sub(1);
-    let keyword = take_one(place)?;
-    let opening = open_paren(place)?;
-    let condition = expr_inside(lent, Reach::Assigned, Begun::Nothing, inside, place, depth)?;
-    let separator = comma(place)?;
-    let first = expr_inside(lent, Reach::Assigned, Begun::Nothing, inside, place, depth)?;
-    let second_separator = comma(place)?;
-    let second = expr_inside(lent, Reach::Assigned, Begun::Nothing, inside, place, depth)?;
-    let closing = close_paren(place)?;
+    let keyword = take_one(cursor)?;
+    let opening = open_paren(cursor)?;
+    let condition = expr_inside(lent, Reach::Assigned, Begun::Nothing, inside, cursor, depth)?;
+    let separator = comma(cursor)?;
+    let first = expr_inside(lent, Reach::Assigned, Begun::Nothing, inside, cursor, depth)?;
+    let second_separator = comma(cursor)?;
+    let second = expr_inside(lent, Reach::Assigned, Begun::Nothing, inside, cursor, depth)?;
+    let closing = close_paren(cursor)?;
     let made = c_nodes::choose(
-        place.alloc,
+        cursor.alloc,
         keyword,
         opening,
         condition,
@@ -82,7 +82,7 @@ where
         second,
         closing,
     )?;
-    postfixed(lent, made, room, place, depth)
+    postfixed(lent, made, room, cursor, depth)
 }
 
 /// `Assoc = default : assign`, at its word.
@@ -90,19 +90,19 @@ where
 fn default_assoc<'a, F>(
     lent: &F,
     room: u16,
-    place: &mut Place<'a>,
+    cursor: &mut Cursor<'a>,
     depth: u32,
 ) -> Result<SizedAssoc, ReadError>
 where
-    F: Fn(Ask, &mut Place<'a>) -> Result<Answer, ReadError>,
+    F: Fn(Ask, &mut Cursor<'a>) -> Result<Answer, ReadError>,
     requires { Lends F.Fn lent.now depth }
-    ensures { ReadsAssoc place.old place.new result (exprs.default_assoc_with (knot depth) room) }
+    ensures { ReadsAssoc cursor.old cursor.new result (exprs.default_assoc_with (knot depth) room) }
 {
-    room_for(2, room, place)?;
+    room_for(2, room, cursor)?;
     let inside = room.saturating_sub(1);
-    let keyword = take_one(place)?;
-    let colon = colon(place)?;
-    let value = expr_inside(lent, Reach::Assigned, Begun::Nothing, inside, place, depth)?;
+    let keyword = take_one(cursor)?;
+    let colon = colon(cursor)?;
+    let value = expr_inside(lent, Reach::Assigned, Begun::Nothing, inside, cursor, depth)?;
     Ok(c_nodes::default_assoc(keyword, colon, value))
 }
 
@@ -111,19 +111,19 @@ where
 fn typed_assoc<'a, F>(
     lent: &F,
     room: u16,
-    place: &mut Place<'a>,
+    cursor: &mut Cursor<'a>,
     depth: u32,
 ) -> Result<SizedAssoc, ReadError>
 where
-    F: Fn(Ask, &mut Place<'a>) -> Result<Answer, ReadError>,
+    F: Fn(Ask, &mut Cursor<'a>) -> Result<Answer, ReadError>,
     requires { Lends F.Fn lent.now depth }
-    ensures { ReadsAssoc place.old place.new result (exprs.typed_assoc_with (knot depth) room) }
+    ensures { ReadsAssoc cursor.old cursor.new result (exprs.typed_assoc_with (knot depth) room) }
 {
-    room_for(3, room, place)?;
+    room_for(3, room, cursor)?;
     let inside = room.saturating_sub(1);
-    let of = type_name_inside(lent, inside, place, depth)?;
-    let colon = colon(place)?;
-    let value = expr_inside(lent, Reach::Assigned, Begun::Nothing, inside, place, depth)?;
+    let of = type_name_inside(lent, inside, cursor, depth)?;
+    let colon = colon(cursor)?;
+    let value = expr_inside(lent, Reach::Assigned, Begun::Nothing, inside, cursor, depth)?;
     Ok(c_nodes::typed_assoc(of, colon, value))
 }
 
@@ -132,21 +132,21 @@ where
 fn assoc<'a, F>(
     lent: &F,
     room: u16,
-    place: &mut Place<'a>,
+    cursor: &mut Cursor<'a>,
     depth: u32,
 ) -> Result<SizedAssoc, ReadError>
 where
-    F: Fn(Ask, &mut Place<'a>) -> Result<Answer, ReadError>,
+    F: Fn(Ask, &mut Cursor<'a>) -> Result<Answer, ReadError>,
     requires { Lends F.Fn lent.now depth }
-    ensures { ReadsAssoc place.old place.new result (exprs.assoc_with (knot depth) room) }
+    ensures { ReadsAssoc cursor.old cursor.new result (exprs.assoc_with (knot depth) room) }
 {
-    if is_default(kind_at(place.rest)) {
-        return default_assoc(lent, room, place, depth);
+    if is_default(kind_at(cursor.rest)) {
+        return default_assoc(lent, room, cursor, depth);
     }
-    if begins_role(Role::Naming, &place.scopes, kind_at(place.rest)) {
-        return typed_assoc(lent, room, place, depth);
+    if begins_role(Role::Naming, &cursor.scopes, kind_at(cursor.rest)) {
+        return typed_assoc(lent, room, cursor, depth);
     }
-    Err(refused(Fault::Unexpected, place.rest))
+    Err(refused(FaultKind::Unexpected, cursor.rest))
 }
 
 /// Each association that is read takes a token.
@@ -162,23 +162,23 @@ fn next_assoc<'a, F>(
     lent: &F,
     known: &mut SizedAssocs,
     room: u16,
-    place: &mut Place<'a>,
+    cursor: &mut Cursor<'a>,
     depth: u32,
 ) -> Result<bool, ReadError>
 where
-    F: Fn(Ask, &mut Place<'a>) -> Result<Answer, ReadError>,
+    F: Fn(Ask, &mut Cursor<'a>) -> Result<Answer, ReadError>,
     requires { Lends F.Fn lent.now depth }
-    ensures { Turns (known_assocs known.old) (known_assocs known.new) place.old place.new
+    ensures { Turns (known_assocs known.old) (known_assocs known.new) cursor.old cursor.new
         result (assoc_turn depth room) }
 {
-    let [first, rest @ ..] = place.rest else {
+    let [first, rest @ ..] = cursor.rest else {
         return Ok(false);
     };
     if !is_comma(first.kind) {
         return Ok(false);
     }
-    place.rest = rest;
-    let next = assoc(lent, room, place, depth)?;
+    cursor.rest = rest;
+    let next = assoc(lent, room, cursor, depth)?;
     known.push(next)?;
     Ok(true)
 }
@@ -188,18 +188,18 @@ fn more_assocs<'a, F>(
     lent: &F,
     first: SizedAssoc,
     room: u16,
-    place: &mut Place<'a>,
+    cursor: &mut Cursor<'a>,
     depth: u32,
 ) -> Result<SizedAssocs, ReadError>
 where
-    F: Fn(Ask, &mut Place<'a>) -> Result<Answer, ReadError>,
+    F: Fn(Ask, &mut Cursor<'a>) -> Result<Answer, ReadError>,
     requires { Lends F.Fn lent.now depth }
-    ensures { ReadsAssocList place.old place.new result (behind_assoc depth first room) }
+    ensures { ReadsAssocList cursor.old cursor.new result (behind_assoc depth first room) }
 {
     assocs_step(room, depth);
-    let mut known = SizedAssocs::new(place.alloc);
+    let mut known = SizedAssocs::new(cursor.alloc);
     known.push(first)?;
-    while next_assoc(lent, &mut known, room, place, depth)? {}
+    while next_assoc(lent, &mut known, room, cursor, depth)? {}
     Ok(known)
 }
 
@@ -208,16 +208,16 @@ where
 fn assocs<'a, F>(
     lent: &F,
     room: u16,
-    place: &mut Place<'a>,
+    cursor: &mut Cursor<'a>,
     depth: u32,
 ) -> Result<SizedAssocs, ReadError>
 where
-    F: Fn(Ask, &mut Place<'a>) -> Result<Answer, ReadError>,
+    F: Fn(Ask, &mut Cursor<'a>) -> Result<Answer, ReadError>,
     requires { Lends F.Fn lent.now depth }
-    ensures { ReadsAssocList place.old place.new result (assocs_at depth room) }
+    ensures { ReadsAssocList cursor.old cursor.new result (assocs_at depth room) }
 {
-    let first = assoc(lent, room, place, depth)?;
-    more_assocs(lent, first, room, place, depth)
+    let first = assoc(lent, room, cursor, depth)?;
+    more_assocs(lent, first, room, cursor, depth)
 }
 
 /// `Generic = _Generic ( assign , Assoc (, Assoc)* )`, with its postfix forms.
@@ -225,29 +225,29 @@ where
 pub(crate) fn generic<'a, F>(
     lent: &F,
     room: u16,
-    place: &mut Place<'a>,
+    cursor: &mut Cursor<'a>,
     depth: u32,
 ) -> Result<SizedExpr, ReadError>
 where
-    F: Fn(Ask, &mut Place<'a>) -> Result<Answer, ReadError>,
+    F: Fn(Ask, &mut Cursor<'a>) -> Result<Answer, ReadError>,
     requires { Lends F.Fn lent.now depth }
-    ensures { ReadsExpr place.old place.new result (exprs.generic_with (knot depth) room) }
+    ensures { ReadsExpr cursor.old cursor.new result (exprs.generic_with (knot depth) room) }
 {
-    room_for(3, room, place)?;
+    room_for(3, room, cursor)?;
     let inside = room.saturating_sub(1);
-    let keyword = take_one(place)?;
-    let opening = open_paren(place)?;
-    let control = expr_inside(lent, Reach::Assigned, Begun::Nothing, inside, place, depth)?;
-    let _separator = comma(place)?;
-    let associations = assocs(lent, inside, place, depth)?;
-    let closing = close_paren(place)?;
+    let keyword = take_one(cursor)?;
+    let opening = open_paren(cursor)?;
+    let control = expr_inside(lent, Reach::Assigned, Begun::Nothing, inside, cursor, depth)?;
+    let _separator = comma(cursor)?;
+    let associations = assocs(lent, inside, cursor, depth)?;
+    let closing = close_paren(cursor)?;
     let made = c_nodes::generic(
-        place.alloc,
+        cursor.alloc,
         keyword,
         opening,
         control,
         associations,
         closing,
     )?;
-    postfixed(lent, made, room, place, depth)
+    postfixed(lent, made, room, cursor, depth)
 }

@@ -13,10 +13,10 @@ ghost use Rattle.expr_forms.specs.Parts.{postfixed_at};
 
 use crate::arguments::arguments;
 use c_nodes::{SizedExpr, above};
-use c_reading::{Fault, PostfixForm, Reach, turns_take_tokens};
+use c_reading::{FaultKind, PostfixForm, Reach, turns_take_tokens};
 use c_words::Punct;
 use reader_base::{
-    Answer, Ask, Begun, Place, ReadError, close_bracket, close_paren, expr_inside, form_of,
+    Answer, Ask, Begun, Cursor, ReadError, close_bracket, close_paren, expr_inside, form_of,
     kind_at, name, refused, room_for, take_one,
 };
 
@@ -26,19 +26,19 @@ fn index<'a, F>(
     lent: &F,
     base: SizedExpr,
     room: u16,
-    place: &mut Place<'a>,
+    cursor: &mut Cursor<'a>,
     depth: u32,
 ) -> Result<SizedExpr, ReadError>
 where
-    F: Fn(Ask, &mut Place<'a>) -> Result<Answer, ReadError>,
+    F: Fn(Ask, &mut Cursor<'a>) -> Result<Answer, ReadError>,
     requires { Lends F.Fn lent.now depth }
-    ensures { ReadsExpr place.old place.new result (index_at depth base room) }
+    ensures { ReadsExpr cursor.old cursor.new result (index_at depth base room) }
 {
-    let opening = take_one(place)?;
+    let opening = take_one(cursor)?;
     let inside = room.saturating_sub(1);
-    let index = expr_inside(lent, Reach::Whole, Begun::Nothing, inside, place, depth)?;
-    let closing = close_bracket(place)?;
-    Ok(c_nodes::index(place.alloc, base, opening, index, closing)?)
+    let index = expr_inside(lent, Reach::Whole, Begun::Nothing, inside, cursor, depth)?;
+    let closing = close_bracket(cursor)?;
+    Ok(c_nodes::index(cursor.alloc, base, opening, index, closing)?)
 }
 
 /// `Call = postfix ( [assign (, assign)*] )`.
@@ -47,50 +47,50 @@ fn call<'a, F>(
     lent: &F,
     callee: SizedExpr,
     room: u16,
-    place: &mut Place<'a>,
+    cursor: &mut Cursor<'a>,
     depth: u32,
 ) -> Result<SizedExpr, ReadError>
 where
-    F: Fn(Ask, &mut Place<'a>) -> Result<Answer, ReadError>,
+    F: Fn(Ask, &mut Cursor<'a>) -> Result<Answer, ReadError>,
     requires { Lends F.Fn lent.now depth }
-    ensures { ReadsExpr place.old place.new result (call_at depth callee room) }
+    ensures { ReadsExpr cursor.old cursor.new result (call_at depth callee room) }
 {
-    let opening = take_one(place)?;
-    let arguments = arguments(lent, room, place, depth)?;
-    let closing = close_paren(place)?;
-    Ok(c_nodes::call(place.alloc, callee, opening, arguments, closing)?)
+    let opening = take_one(cursor)?;
+    let arguments = arguments(lent, room, cursor, depth)?;
+    let closing = close_paren(cursor)?;
+    Ok(c_nodes::call(cursor.alloc, callee, opening, arguments, closing)?)
 }
 
 /// `Dot = postfix . Name`.
 #[tactic(auto, unfolding(c_reading::specs::Expressing::dot_with, c_reading::specs::Reading::and_then))]
-fn dot(base: SizedExpr, place: &mut Place) -> Result<SizedExpr, ReadError>
+fn dot(base: SizedExpr, cursor: &mut Cursor) -> Result<SizedExpr, ReadError>
     ensures { (inner : Inner) →
-        ReadsExpr place.old place.new result (dot_with inner (expr base)) }
+        ReadsExpr cursor.old cursor.new result (dot_with inner (expr base)) }
 {
-    let token = take_one(place)?;
-    let member = name(place)?;
-    Ok(c_nodes::dot(place.alloc, base, token, member)?)
+    let token = take_one(cursor)?;
+    let member = name(cursor)?;
+    Ok(c_nodes::dot(cursor.alloc, base, token, member)?)
 }
 
 /// `Arrow = postfix -> Name`.
 #[tactic(auto, unfolding(c_reading::specs::Expressing::arrow_with, c_reading::specs::Reading::and_then))]
-fn arrow(base: SizedExpr, place: &mut Place) -> Result<SizedExpr, ReadError>
+fn arrow(base: SizedExpr, cursor: &mut Cursor) -> Result<SizedExpr, ReadError>
     ensures { (inner : Inner) →
-        ReadsExpr place.old place.new result (arrow_with inner (expr base)) }
+        ReadsExpr cursor.old cursor.new result (arrow_with inner (expr base)) }
 {
-    let token = take_one(place)?;
-    let member = name(place)?;
-    Ok(c_nodes::arrow(place.alloc, base, token, member)?)
+    let token = take_one(cursor)?;
+    let member = name(cursor)?;
+    Ok(c_nodes::arrow(cursor.alloc, base, token, member)?)
 }
 
 /// `Post = postfix (++ | --)`.
 #[tactic(auto, unfolding(c_reading::specs::Expressing::post_with, c_reading::specs::Reading::and_then))]
-fn post(base: SizedExpr, sign: Punct, place: &mut Place) -> Result<SizedExpr, ReadError>
+fn post(base: SizedExpr, sign: Punct, cursor: &mut Cursor) -> Result<SizedExpr, ReadError>
     ensures { (inner : Inner) →
-        ReadsExpr place.old place.new result (post_with inner (expr base) sign) }
+        ReadsExpr cursor.old cursor.new result (post_with inner (expr base) sign) }
 {
-    let token = take_one(place)?;
-    Ok(c_nodes::post(place.alloc, base, token, sign)?)
+    let token = take_one(cursor)?;
+    Ok(c_nodes::post(cursor.alloc, base, token, sign)?)
 }
 
 /// A postfix form of a kind behind an operand.
@@ -99,46 +99,46 @@ fn form_behind<'a, F>(
     form: PostfixForm,
     base: SizedExpr,
     room: u16,
-    place: &mut Place<'a>,
+    cursor: &mut Cursor<'a>,
     depth: u32,
 ) -> Result<SizedExpr, ReadError>
 where
-    F: Fn(Ask, &mut Place<'a>) -> Result<Answer, ReadError>,
+    F: Fn(Ask, &mut Cursor<'a>) -> Result<Answer, ReadError>,
     requires { Lends F.Fn lent.now depth }
-    ensures { ReadsExpr place.old place.new result (form_at depth form base room) }
+    ensures { ReadsExpr cursor.old cursor.new result (form_at depth form base room) }
 {
     match form {
-        PostfixForm::Index => index(lent, base, room, place, depth),
-        PostfixForm::Call => call(lent, base, room, place, depth),
-        PostfixForm::Dot => dot(base, place),
-        PostfixForm::Arrow => arrow(base, place),
-        PostfixForm::Post(sign) => post(base, sign, place),
-        PostfixForm::Nothing => Err(refused(Fault::Unexpected, place.rest)),
+        PostfixForm::Index => index(lent, base, room, cursor, depth),
+        PostfixForm::Call => call(lent, base, room, cursor, depth),
+        PostfixForm::Dot => dot(base, cursor),
+        PostfixForm::Arrow => arrow(base, cursor),
+        PostfixForm::Post(sign) => post(base, sign, cursor),
+        PostfixForm::Nothing => Err(refused(FaultKind::Unexpected, cursor.rest)),
     }
 }
 
 /// What is put round an operand has room, or the first token is refused.
 #[tactic(auto, using(crate::proofs::Rooms::least_above))]
-fn room_above(base: &SizedExpr, room: u16, place: &Place) -> Result<(), ReadError>
-    ensures { HasRoom (suc (expr_height (expr base.now))) room place.now.rest.now result }
+fn room_above(base: &SizedExpr, room: u16, cursor: &Cursor) -> Result<(), ReadError>
+    ensures { HasRoom (suc (expr_height (expr base.now))) room cursor.now.rest.now result }
 {
-    room_for(above(base.height), room, place)
+    room_for(above(base.height), room, cursor)
 }
 
 /// The postfix form that the first token begins, for which there is room, or none.
 #[tactic(auto, unfolding(c_reading::specs::Reading::fits))]
-fn chosen(base: &SizedExpr, room: u16, place: &Place) -> Result<Option<PostfixForm>, ReadError>
-    ensures { IsChosen room (expr base.now) place.now.rest.now result }
+fn chosen(base: &SizedExpr, room: u16, cursor: &Cursor) -> Result<Option<PostfixForm>, ReadError>
+    ensures { IsChosen room (expr base.now) cursor.now.rest.now result }
 {
-    let form = form_of(kind_at(place.rest));
+    let form = form_of(kind_at(cursor.rest));
     match form {
         PostfixForm::Nothing => Ok(None),
         PostfixForm::Index | PostfixForm::Call | PostfixForm::Dot => {
-            room_above(base, room, place)?;
+            room_above(base, room, cursor)?;
             Ok(Some(form))
         }
         PostfixForm::Arrow | PostfixForm::Post(_) => {
-            room_above(base, room, place)?;
+            room_above(base, room, cursor)?;
             Ok(Some(form))
         }
     }
@@ -157,18 +157,18 @@ pub(crate) fn postfixed<'a, F>(
     lent: &F,
     base: SizedExpr,
     room: u16,
-    place: &mut Place<'a>,
+    cursor: &mut Cursor<'a>,
     depth: u32,
 ) -> Result<SizedExpr, ReadError>
 where
-    F: Fn(Ask, &mut Place<'a>) -> Result<Answer, ReadError>,
+    F: Fn(Ask, &mut Cursor<'a>) -> Result<Answer, ReadError>,
     requires { Lends F.Fn lent.now depth }
-    ensures { ReadsExpr place.old place.new result (postfixed_at depth base room) }
+    ensures { ReadsExpr cursor.old cursor.new result (postfixed_at depth base room) }
 {
     forms_step(room, depth);
     let mut known = base;
-    while let Some(form) = chosen(&known, room, place)? {
-        known = form_behind(lent, form, known, room, place, depth)?;
+    while let Some(form) = chosen(&known, room, cursor)? {
+        known = form_behind(lent, form, known, room, cursor, depth)?;
     }
     Ok(known)
 }

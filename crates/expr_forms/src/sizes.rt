@@ -15,17 +15,17 @@ use c_syntax::Word;
 use c_words::Keyword;
 use qual_base::TokenId;
 use reader_base::{
-    Answer, Ask, Begun, Place, ReadError, begins_specs, behind_first, close_paren, expr_inside,
+    Answer, Ask, Begun, Cursor, ReadError, begins_specs, behind_first, close_paren, expr_inside,
     is_open_brace, is_open_paren, kind_at, room_for, take_one, type_name_inside,
 };
 
 /// `sizeof` or `alignof` before a compound literal has room, or the first token is refused.
 #[tactic(auto, using(crate::proofs::Rooms::least_two_above))]
-fn room_above_literal(of: &SizedTypeName, room: u16, place: &Place) -> Result<(), ReadError>
+fn room_above_literal(of: &SizedTypeName, room: u16, cursor: &Cursor) -> Result<(), ReadError>
     ensures { HasRoom (2 + type_name_height (sized_type_name of.now)) room
-        place.now.rest.now result }
+        cursor.now.rest.now result }
 {
-    room_for(above(above(of.height)), room, place)
+    room_for(above(above(of.height)), room, cursor)
 }
 
 /// `Sizeof = (sizeof | alignof) unary`, behind the word.
@@ -34,17 +34,17 @@ fn sizeof_value<'a, F>(
     lent: &F,
     word: Word,
     room: u16,
-    place: &mut Place<'a>,
+    cursor: &mut Cursor<'a>,
     depth: u32,
 ) -> Result<SizedExpr, ReadError>
 where
-    F: Fn(Ask, &mut Place<'a>) -> Result<Answer, ReadError>,
+    F: Fn(Ask, &mut Cursor<'a>) -> Result<Answer, ReadError>,
     requires { Lends F.Fn lent.now depth }
-    ensures { ReadsExpr place.old place.new result (sizeof_value_at depth word room) }
+    ensures { ReadsExpr cursor.old cursor.new result (sizeof_value_at depth word room) }
 {
     let inside = room.saturating_sub(1);
-    let operand = expr_inside(lent, Reach::Unary, Begun::Nothing, inside, place, depth)?;
-    Ok(c_nodes::sizeof_value(place.alloc, word, operand)?)
+    let operand = expr_inside(lent, Reach::Unary, Begun::Nothing, inside, cursor, depth)?;
+    Ok(c_nodes::sizeof_value(cursor.alloc, word, operand)?)
 }
 
 /// A compound literal that is the operand, behind its parentheses.
@@ -56,19 +56,19 @@ fn sizeof_literal<'a, F>(
     of: SizedTypeName,
     closing: TokenId,
     room: u16,
-    place: &mut Place<'a>,
+    cursor: &mut Cursor<'a>,
     depth: u32,
 ) -> Result<SizedExpr, ReadError>
 where
-    F: Fn(Ask, &mut Place<'a>) -> Result<Answer, ReadError>,
+    F: Fn(Ask, &mut Cursor<'a>) -> Result<Answer, ReadError>,
     requires { Lends F.Fn lent.now depth }
-    ensures { ReadsExpr place.old place.new result
+    ensures { ReadsExpr cursor.old cursor.new result
         (sizeof_literal_at depth word opening of closing room) }
 {
-    room_above_literal(&of, room, place)?;
+    room_above_literal(&of, room, cursor)?;
     let inside = room.saturating_sub(1);
-    let operand = compound(lent, opening, of, closing, inside, place, depth)?;
-    Ok(c_nodes::sizeof_value(place.alloc, word, operand)?)
+    let operand = compound(lent, opening, of, closing, inside, cursor, depth)?;
+    Ok(c_nodes::sizeof_value(cursor.alloc, word, operand)?)
 }
 
 /// Behind the name of a type in parentheses: `SizeofType`, or before `{` a compound literal that is
@@ -81,19 +81,19 @@ fn sizeof_typed<'a, F>(
     of: SizedTypeName,
     closing: TokenId,
     room: u16,
-    place: &mut Place<'a>,
+    cursor: &mut Cursor<'a>,
     depth: u32,
 ) -> Result<SizedExpr, ReadError>
 where
-    F: Fn(Ask, &mut Place<'a>) -> Result<Answer, ReadError>,
+    F: Fn(Ask, &mut Cursor<'a>) -> Result<Answer, ReadError>,
     requires { Lends F.Fn lent.now depth }
-    ensures { ReadsExpr place.old place.new result
+    ensures { ReadsExpr cursor.old cursor.new result
         (sizeof_typed_at depth word opening of closing room) }
 {
-    if is_open_brace(kind_at(place.rest)) {
-        sizeof_literal(lent, word, opening, of, closing, room, place, depth)
+    if is_open_brace(kind_at(cursor.rest)) {
+        sizeof_literal(lent, word, opening, of, closing, room, cursor, depth)
     } else {
-        Ok(c_nodes::sizeof_type(place.alloc, word, opening, of, closing)?)
+        Ok(c_nodes::sizeof_type(cursor.alloc, word, opening, of, closing)?)
     }
 }
 
@@ -103,19 +103,19 @@ fn sizeof_type<'a, F>(
     lent: &F,
     word: Word,
     room: u16,
-    place: &mut Place<'a>,
+    cursor: &mut Cursor<'a>,
     depth: u32,
 ) -> Result<SizedExpr, ReadError>
 where
-    F: Fn(Ask, &mut Place<'a>) -> Result<Answer, ReadError>,
+    F: Fn(Ask, &mut Cursor<'a>) -> Result<Answer, ReadError>,
     requires { Lends F.Fn lent.now depth }
-    ensures { ReadsExpr place.old place.new result (sizeof_type_at depth word room) }
+    ensures { ReadsExpr cursor.old cursor.new result (sizeof_type_at depth word room) }
 {
-    let opening = take_one(place)?;
+    let opening = take_one(cursor)?;
     let inside = room.saturating_sub(1);
-    let of = type_name_inside(lent, inside, place, depth)?;
-    let closing = close_paren(place)?;
-    sizeof_typed(lent, word, opening, of, closing, room, place, depth)
+    let of = type_name_inside(lent, inside, cursor, depth)?;
+    let closing = close_paren(cursor)?;
+    sizeof_typed(lent, word, opening, of, closing, room, cursor, depth)
 }
 
 /// Behind the word with a parenthesis behind it, by the token there.
@@ -124,19 +124,19 @@ fn sizeof_opened<'a, F>(
     lent: &F,
     word: Word,
     room: u16,
-    place: &mut Place<'a>,
+    cursor: &mut Cursor<'a>,
     depth: u32,
 ) -> Result<SizedExpr, ReadError>
 where
-    F: Fn(Ask, &mut Place<'a>) -> Result<Answer, ReadError>,
+    F: Fn(Ask, &mut Cursor<'a>) -> Result<Answer, ReadError>,
     requires { Lends F.Fn lent.now depth }
-    ensures { ReadsExpr place.old place.new result (sizeof_opened_at depth word room) }
+    ensures { ReadsExpr cursor.old cursor.new result (sizeof_opened_at depth word room) }
 {
-    room_for(3, room, place)?;
-    if begins_specs(&place.scopes, kind_at(behind_first(place.rest))) {
-        sizeof_type(lent, word, room, place, depth)
+    room_for(3, room, cursor)?;
+    if begins_specs(&cursor.scopes, kind_at(behind_first(cursor.rest))) {
+        sizeof_type(lent, word, room, cursor, depth)
     } else {
-        sizeof_value(lent, word, room, place, depth)
+        sizeof_value(lent, word, room, cursor, depth)
     }
 }
 
@@ -146,18 +146,18 @@ fn sizeof_behind<'a, F>(
     lent: &F,
     word: Word,
     room: u16,
-    place: &mut Place<'a>,
+    cursor: &mut Cursor<'a>,
     depth: u32,
 ) -> Result<SizedExpr, ReadError>
 where
-    F: Fn(Ask, &mut Place<'a>) -> Result<Answer, ReadError>,
+    F: Fn(Ask, &mut Cursor<'a>) -> Result<Answer, ReadError>,
     requires { Lends F.Fn lent.now depth }
-    ensures { ReadsExpr place.old place.new result (sizeof_behind_at depth word room) }
+    ensures { ReadsExpr cursor.old cursor.new result (sizeof_behind_at depth word room) }
 {
-    if is_open_paren(kind_at(place.rest)) {
-        sizeof_opened(lent, word, room, place, depth)
+    if is_open_paren(kind_at(cursor.rest)) {
+        sizeof_opened(lent, word, room, cursor, depth)
     } else {
-        sizeof_value(lent, word, room, place, depth)
+        sizeof_value(lent, word, room, cursor, depth)
     }
 }
 
@@ -167,15 +167,15 @@ pub(crate) fn sizeof<'a, F>(
     lent: &F,
     keyword: Keyword,
     room: u16,
-    place: &mut Place<'a>,
+    cursor: &mut Cursor<'a>,
     depth: u32,
 ) -> Result<SizedExpr, ReadError>
 where
-    F: Fn(Ask, &mut Place<'a>) -> Result<Answer, ReadError>,
+    F: Fn(Ask, &mut Cursor<'a>) -> Result<Answer, ReadError>,
     requires { Lends F.Fn lent.now depth }
-    ensures { ReadsExpr place.old place.new result (sizeof_at depth keyword room) }
+    ensures { ReadsExpr cursor.old cursor.new result (sizeof_at depth keyword room) }
 {
-    room_for(2, room, place)?;
-    let token = take_one(place)?;
-    sizeof_behind(lent, Word { token, keyword }, room, place, depth)
+    room_for(2, room, cursor)?;
+    let token = take_one(cursor)?;
+    sizeof_behind(lent, Word { token, keyword }, room, cursor, depth)
 }

@@ -8,7 +8,7 @@ use crate::postfix::postfixed;
 use c_nodes::SizedExpr;
 use c_reading::Reach;
 use reader_base::{
-    Answer, Ask, Begun, Place, ReadError, close_paren, comma, expr_inside, open_paren, room_for,
+    Answer, Ask, Begun, Cursor, ReadError, close_paren, comma, expr_inside, open_paren, room_for,
     take_one, type_name_inside,
 };
 
@@ -17,24 +17,24 @@ use reader_base::{
 pub(crate) fn va_arg<'a, F>(
     lent: &F,
     room: u16,
-    place: &mut Place<'a>,
+    cursor: &mut Cursor<'a>,
     depth: u32,
 ) -> Result<SizedExpr, ReadError>
 where
-    F: Fn(Ask, &mut Place<'a>) -> Result<Answer, ReadError>,
+    F: Fn(Ask, &mut Cursor<'a>) -> Result<Answer, ReadError>,
     requires { Lends F.Fn lent.now depth }
-    ensures { ReadsExpr place.old place.new result (va_arg_at depth room) }
+    ensures { ReadsExpr cursor.old cursor.new result (va_arg_at depth room) }
 {
-    room_for(3, room, place)?;
+    room_for(3, room, cursor)?;
     let inside = room.saturating_sub(1);
-    let keyword = take_one(place)?;
-    let opening = open_paren(place)?;
-    let list = expr_inside(lent, Reach::Assigned, Begun::Nothing, inside, place, depth)?;
-    let separator = comma(place)?;
-    let of = type_name_inside(lent, inside, place, depth)?;
-    let closing = close_paren(place)?;
-    let made = c_nodes::va_arg(place.alloc, keyword, opening, list, separator, of, closing)?;
-    postfixed(lent, made, room, place, depth)
+    let keyword = take_one(cursor)?;
+    let opening = open_paren(cursor)?;
+    let list = expr_inside(lent, Reach::Assigned, Begun::Nothing, inside, cursor, depth)?;
+    let separator = comma(cursor)?;
+    let of = type_name_inside(lent, inside, cursor, depth)?;
+    let closing = close_paren(cursor)?;
+    let made = c_nodes::va_arg(cursor.alloc, keyword, opening, list, separator, of, closing)?;
+    postfixed(lent, made, room, cursor, depth)
 }
 
 /// `VaStart = __builtin_va_start ( assign , assign )`, with its postfix forms.
@@ -42,24 +42,24 @@ where
 pub(crate) fn va_start<'a, F>(
     lent: &F,
     room: u16,
-    place: &mut Place<'a>,
+    cursor: &mut Cursor<'a>,
     depth: u32,
 ) -> Result<SizedExpr, ReadError>
 where
-    F: Fn(Ask, &mut Place<'a>) -> Result<Answer, ReadError>,
+    F: Fn(Ask, &mut Cursor<'a>) -> Result<Answer, ReadError>,
     requires { Lends F.Fn lent.now depth }
-    ensures { ReadsExpr place.old place.new result (va_two_at depth va_start room) }
+    ensures { ReadsExpr cursor.old cursor.new result (va_two_at depth va_start room) }
 {
-    room_for(2, room, place)?;
+    room_for(2, room, cursor)?;
     let inside = room.saturating_sub(1);
-    let keyword = take_one(place)?;
-    let opening = open_paren(place)?;
-    let list = expr_inside(lent, Reach::Assigned, Begun::Nothing, inside, place, depth)?;
-    let separator = comma(place)?;
-    let last = expr_inside(lent, Reach::Assigned, Begun::Nothing, inside, place, depth)?;
-    let closing = close_paren(place)?;
+    let keyword = take_one(cursor)?;
+    let opening = open_paren(cursor)?;
+    let list = expr_inside(lent, Reach::Assigned, Begun::Nothing, inside, cursor, depth)?;
+    let separator = comma(cursor)?;
+    let last = expr_inside(lent, Reach::Assigned, Begun::Nothing, inside, cursor, depth)?;
+    let closing = close_paren(cursor)?;
     let made = c_nodes::va_start(
-        place.alloc,
+        cursor.alloc,
         keyword,
         opening,
         list,
@@ -67,7 +67,7 @@ where
         last,
         closing,
     )?;
-    postfixed(lent, made, room, place, depth)
+    postfixed(lent, made, room, cursor, depth)
 }
 
 /// `VaCopy = __builtin_va_copy ( assign , assign )`, with its postfix forms.
@@ -75,24 +75,24 @@ where
 pub(crate) fn va_copy<'a, F>(
     lent: &F,
     room: u16,
-    place: &mut Place<'a>,
+    cursor: &mut Cursor<'a>,
     depth: u32,
 ) -> Result<SizedExpr, ReadError>
 where
-    F: Fn(Ask, &mut Place<'a>) -> Result<Answer, ReadError>,
+    F: Fn(Ask, &mut Cursor<'a>) -> Result<Answer, ReadError>,
     requires { Lends F.Fn lent.now depth }
-    ensures { ReadsExpr place.old place.new result (va_two_at depth va_copy room) }
+    ensures { ReadsExpr cursor.old cursor.new result (va_two_at depth va_copy room) }
 {
-    room_for(2, room, place)?;
+    room_for(2, room, cursor)?;
     let inside = room.saturating_sub(1);
-    let keyword = take_one(place)?;
-    let opening = open_paren(place)?;
-    let target = expr_inside(lent, Reach::Assigned, Begun::Nothing, inside, place, depth)?;
-    let separator = comma(place)?;
-    let source = expr_inside(lent, Reach::Assigned, Begun::Nothing, inside, place, depth)?;
-    let closing = close_paren(place)?;
+    let keyword = take_one(cursor)?;
+    let opening = open_paren(cursor)?;
+    let target = expr_inside(lent, Reach::Assigned, Begun::Nothing, inside, cursor, depth)?;
+    let separator = comma(cursor)?;
+    let source = expr_inside(lent, Reach::Assigned, Begun::Nothing, inside, cursor, depth)?;
+    let closing = close_paren(cursor)?;
     let made = c_nodes::va_copy(
-        place.alloc,
+        cursor.alloc,
         keyword,
         opening,
         target,
@@ -100,5 +100,5 @@ where
         source,
         closing,
     )?;
-    postfixed(lent, made, room, place, depth)
+    postfixed(lent, made, room, cursor, depth)
 }

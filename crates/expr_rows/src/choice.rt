@@ -4,7 +4,7 @@ ghost use Rattle.expr_rows.specs.OpRows.Rows.{row_of};
 ghost use Rattle.expr_rows.specs.Turning.{IsChosen};
 
 use crate::op_rows::OpRow;
-use c_reading::{Fault, Infix, Reach};
+use c_reading::{FaultKind, Infix, Reach};
 use c_tree::Lexeme;
 use reader_base::{ReadError, infix_of, kind_at, refused, takes_assign, takes_comma};
 
@@ -24,7 +24,7 @@ pub(crate) fn chosen(
         Infix::Comma => takes_comma(reach),
         Infix::Assign(_) => {
             if !row.is_target() {
-                return Err(refused(Fault::BadTarget, tokens));
+                return Err(refused(FaultKind::BadTarget, tokens));
             }
             takes_assign(reach)
         }

@@ -13,7 +13,7 @@ use crate::operation::operation_by;
 use c_nodes::SizedExpr;
 use c_reading::{Reach, turns_take_tokens};
 use expr_forms::unary;
-use reader_base::{Answer, Ask, Begun, Place, ReadError};
+use reader_base::{Answer, Ask, Begun, Cursor, ReadError};
 
 /// Each operator that is read takes a token.
 fn operations_step(reach: Reach, room: u16, depth: u32)
@@ -28,18 +28,18 @@ fn operations<'a, F>(
     reach: Reach,
     first: SizedExpr,
     room: u16,
-    place: &mut Place<'a>,
+    cursor: &mut Cursor<'a>,
     depth: u32,
 ) -> Result<OpRow, ReadError>
 where
-    F: Fn(Ask, &mut Place<'a>) -> Result<Answer, ReadError>,
+    F: Fn(Ask, &mut Cursor<'a>) -> Result<Answer, ReadError>,
     requires { Lends F.Fn lent.now depth }
-    ensures { ReadsRow place.old place.new result (operations_at depth reach first room) }
+    ensures { ReadsRow cursor.old cursor.new result (operations_at depth reach first room) }
 {
     operations_step(reach, room, depth);
-    let mut row = OpRow::new(place.alloc, first);
-    while let Some(form) = chosen(reach, &row, place.rest)? {
-        row = operation_by(lent, form, row, room, place, depth)?;
+    let mut row = OpRow::new(cursor.alloc, first);
+    while let Some(form) = chosen(reach, &row, cursor.rest)? {
+        row = operation_by(lent, form, row, room, cursor, depth)?;
     }
     Ok(row)
 }
@@ -51,17 +51,17 @@ fn row<'a, F>(
     reach: Reach,
     begun: Begun,
     room: u16,
-    place: &mut Place<'a>,
+    cursor: &mut Cursor<'a>,
     depth: u32,
 ) -> Result<SizedExpr, ReadError>
 where
-    F: Fn(Ask, &mut Place<'a>) -> Result<Answer, ReadError>,
+    F: Fn(Ask, &mut Cursor<'a>) -> Result<Answer, ReadError>,
     requires { Lends F.Fn lent.now depth }
-    ensures { ReadsExpr place.old place.new result (row_at depth reach (begun_of begun) room) }
+    ensures { ReadsExpr cursor.old cursor.new result (row_at depth reach (begun_of begun) room) }
 {
-    let first = operand(lent, begun, room, place, depth)?;
-    let row = operations(lent, reach, first, room, place, depth)?;
-    let tree = row.finish(place.alloc)?;
+    let first = operand(lent, begun, room, cursor, depth)?;
+    let row = operations(lent, reach, first, room, cursor, depth)?;
+    let tree = row.finish(cursor.alloc)?;
     Ok(tree)
 }
 
@@ -74,19 +74,19 @@ pub fn expr<'a, F>(
     reach: Reach,
     begun: Begun,
     room: u16,
-    place: &mut Place<'a>,
+    cursor: &mut Cursor<'a>,
     depth: u32,
 ) -> Result<SizedExpr, ReadError>
 where
-    F: Fn(Ask, &mut Place<'a>) -> Result<Answer, ReadError>,
+    F: Fn(Ask, &mut Cursor<'a>) -> Result<Answer, ReadError>,
     requires { Lends F.Fn lent.now depth }
-    ensures { ReadsExpr place.old place.new result (expr_at depth reach (begun_of begun) room) }
+    ensures { ReadsExpr cursor.old cursor.new result (expr_at depth reach (begun_of begun) room) }
 {
     match reach {
-        Reach::Whole => row(lent, reach, begun, room, place, depth),
-        Reach::Assigned => row(lent, reach, begun, room, place, depth),
-        Reach::Conditional => row(lent, reach, begun, room, place, depth),
-        Reach::Castable => operand(lent, begun, room, place, depth),
-        Reach::Unary => unary(lent, room, place, depth),
+        Reach::Whole => row(lent, reach, begun, room, cursor, depth),
+        Reach::Assigned => row(lent, reach, begun, room, cursor, depth),
+        Reach::Conditional => row(lent, reach, begun, room, cursor, depth),
+        Reach::Castable => operand(lent, begun, room, cursor, depth),
+        Reach::Unary => unary(lent, room, cursor, depth),
     }
 }

@@ -8,7 +8,7 @@ use c_nodes::{SizedExpr, extended, prefix};
 use c_words::Punct;
 use expr_forms::cast;
 use qual_base::TokenId;
-use reader_base::{Answer, Ask, Begun, Place, ReadError};
+use reader_base::{Answer, Ask, Begun, Cursor, ReadError};
 
 /// What is left of the room for the operand of so many prefixes.
 fn below(room: u16, prefixes: &[TokenId]) -> u16
@@ -26,16 +26,16 @@ fn extension<'a, F>(
     lent: &F,
     tokens: &[TokenId],
     room: u16,
-    place: &mut Place<'a>,
+    cursor: &mut Cursor<'a>,
     depth: u32,
 ) -> Result<SizedExpr, ReadError>
 where
-    F: Fn(Ask, &mut Place<'a>) -> Result<Answer, ReadError>,
+    F: Fn(Ask, &mut Cursor<'a>) -> Result<Answer, ReadError>,
     requires { Lends F.Fn lent.now depth }
-    ensures { ReadsExpr place.old place.new result (behind_extensions depth tokens.now room) }
+    ensures { ReadsExpr cursor.old cursor.new result (behind_extensions depth tokens.now room) }
 {
-    let operand = cast(lent, below(room, tokens), place, depth)?;
-    Ok(extended(place.alloc, tokens, operand)?)
+    let operand = cast(lent, below(room, tokens), cursor, depth)?;
+    Ok(extended(cursor.alloc, tokens, operand)?)
 }
 
 /// An operand behind a star.
@@ -44,16 +44,16 @@ fn pointed<'a, F>(
     lent: &F,
     star: TokenId,
     room: u16,
-    place: &mut Place<'a>,
+    cursor: &mut Cursor<'a>,
     depth: u32,
 ) -> Result<SizedExpr, ReadError>
 where
-    F: Fn(Ask, &mut Place<'a>) -> Result<Answer, ReadError>,
+    F: Fn(Ask, &mut Cursor<'a>) -> Result<Answer, ReadError>,
     requires { Lends F.Fn lent.now depth }
-    ensures { ReadsExpr place.old place.new result (behind_star depth star room) }
+    ensures { ReadsExpr cursor.old cursor.new result (behind_star depth star room) }
 {
-    let operand = cast(lent, room.saturating_sub(1), place, depth)?;
-    Ok(prefix(place.alloc, star, Punct::Star, operand)?)
+    let operand = cast(lent, room.saturating_sub(1), cursor, depth)?;
+    Ok(prefix(cursor.alloc, star, Punct::Star, operand)?)
 }
 
 /// The first operand of a row, behind what of it was read already.
@@ -62,17 +62,17 @@ pub(crate) fn operand<'a, F>(
     lent: &F,
     begun: Begun,
     room: u16,
-    place: &mut Place<'a>,
+    cursor: &mut Cursor<'a>,
     depth: u32,
 ) -> Result<SizedExpr, ReadError>
 where
-    F: Fn(Ask, &mut Place<'a>) -> Result<Answer, ReadError>,
+    F: Fn(Ask, &mut Cursor<'a>) -> Result<Answer, ReadError>,
     requires { Lends F.Fn lent.now depth }
-    ensures { ReadsExpr place.old place.new result (operand_at depth (begun_of begun) room) }
+    ensures { ReadsExpr cursor.old cursor.new result (operand_at depth (begun_of begun) room) }
 {
     match begun {
-        Begun::Nothing => cast(lent, room, place, depth),
-        Begun::Extensions(tokens) => extension(lent, tokens.as_slice(), room, place, depth),
-        Begun::Star(token) => pointed(lent, token, room, place, depth),
+        Begun::Nothing => cast(lent, room, cursor, depth),
+        Begun::Extensions(tokens) => extension(lent, tokens.as_slice(), room, cursor, depth),
+        Begun::Star(token) => pointed(lent, token, room, cursor, depth),
     }
 }

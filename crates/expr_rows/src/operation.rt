@@ -13,19 +13,19 @@ ghost use Rattle.expr_rows.specs.Turning.{operation_on, question_on, middle_at, 
 use crate::op_rows::{OpRow, SizedOp};
 use c_nodes::{SizedExpr, SizedSomeExpr};
 use c_ops::level_of_binary;
-use c_reading::{Fault, Infix, Reach};
+use c_reading::{FaultKind, Infix, Reach};
 use expr_forms::cast;
 use reader_base::{
-    Answer, Ask, Begun, Place, ReadError, colon, expr_inside, is_colon, kind_at, refused, room_for,
-    take_one,
+    Answer, Ask, Begun, Cursor, ReadError, colon, expr_inside, is_colon, kind_at, refused,
+    room_for, take_one,
 };
 
 /// An operator and an operand behind a row have room, or the first token is refused.
 #[tactic(auto, using(crate::proofs::Rooms::least_capped))]
-fn room_behind(left: &OpRow, room: u16, place: &Place) -> Result<(), ReadError>
-    ensures { HasRoom (least_height (settled_of left.now)) room place.now.rest.now result }
+fn room_behind(left: &OpRow, room: u16, cursor: &Cursor) -> Result<(), ReadError>
+    ensures { HasRoom (least_height (settled_of left.now)) room cursor.now.rest.now result }
 {
-    room_for(left.least_height(), room, place)
+    room_for(left.least_height(), room, cursor)
 }
 
 /// The greatest height of what stands behind the operands that wait and the last one.
@@ -45,17 +45,17 @@ fn operation<'a, F>(
     op: SizedOp,
     left: OpRow,
     room: u16,
-    place: &mut Place<'a>,
+    cursor: &mut Cursor<'a>,
     depth: u32,
 ) -> Result<OpRow, ReadError>
 where
-    F: Fn(Ask, &mut Place<'a>) -> Result<Answer, ReadError>,
+    F: Fn(Ask, &mut Cursor<'a>) -> Result<Answer, ReadError>,
     requires { Lends F.Fn lent.now depth }
-    ensures { ReadsRow place.old place.new result (operation_on depth op left room) }
+    ensures { ReadsRow cursor.old cursor.new result (operation_on depth op left room) }
 {
-    room_behind(&left, room, place)?;
-    let token = take_one(place)?;
-    let operand = cast(lent, inside(&left, room), place, depth)?;
+    room_behind(&left, room, cursor)?;
+    let token = take_one(cursor)?;
+    let operand = cast(lent, inside(&left, room), cursor, depth)?;
     Ok(left.put(op, token, operand)?)
 }
 
@@ -64,15 +64,15 @@ where
 fn middle<'a, F>(
     lent: &F,
     room: u16,
-    place: &mut Place<'a>,
+    cursor: &mut Cursor<'a>,
     depth: u32,
 ) -> Result<SizedSomeExpr, ReadError>
 where
-    F: Fn(Ask, &mut Place<'a>) -> Result<Answer, ReadError>,
+    F: Fn(Ask, &mut Cursor<'a>) -> Result<Answer, ReadError>,
     requires { Lends F.Fn lent.now depth }
-    ensures { ReadsMiddle place.old place.new result (middle_at depth room) }
+    ensures { ReadsMiddle cursor.old cursor.new result (middle_at depth room) }
 {
-    if is_colon(kind_at(place.rest)) {
+    if is_colon(kind_at(cursor.rest)) {
         return Ok(SizedSomeExpr {
             tree: None,
             height: 0,
@@ -83,7 +83,7 @@ where
         Reach::Whole,
         Begun::Nothing,
         room,
-        place,
+        cursor,
         depth,
     )?;
     Ok(SizedSomeExpr {
@@ -98,20 +98,20 @@ fn question<'a, F>(
     lent: &F,
     left: OpRow,
     room: u16,
-    place: &mut Place<'a>,
+    cursor: &mut Cursor<'a>,
     depth: u32,
 ) -> Result<OpRow, ReadError>
 where
-    F: Fn(Ask, &mut Place<'a>) -> Result<Answer, ReadError>,
+    F: Fn(Ask, &mut Cursor<'a>) -> Result<Answer, ReadError>,
     requires { Lends F.Fn lent.now depth }
-    ensures { ReadsRow place.old place.new result (question_on depth left room) }
+    ensures { ReadsRow cursor.old cursor.new result (question_on depth left room) }
 {
-    room_behind(&left, room, place)?;
+    room_behind(&left, room, cursor)?;
     let inside = inside(&left, room);
-    let token = take_one(place)?;
-    let middle = middle(lent, inside, place, depth)?;
-    let colon = colon(place)?;
-    let operand = cast(lent, inside, place, depth)?;
+    let token = take_one(cursor)?;
+    let middle = middle(lent, inside, cursor, depth)?;
+    let colon = colon(cursor)?;
+    let operand = cast(lent, inside, cursor, depth)?;
     Ok(left.put(SizedOp::question(middle, colon), token, operand)?)
 }
 
@@ -121,32 +121,32 @@ pub(crate) fn operation_by<'a, F>(
     form: Infix,
     row: OpRow,
     room: u16,
-    place: &mut Place<'a>,
+    cursor: &mut Cursor<'a>,
     depth: u32,
 ) -> Result<OpRow, ReadError>
 where
-    F: Fn(Ask, &mut Place<'a>) -> Result<Answer, ReadError>,
+    F: Fn(Ask, &mut Cursor<'a>) -> Result<Answer, ReadError>,
     requires lent { Lends F.Fn lent.now depth }
     requires listed { IsListed form }
-    ensures { ReadsRow place.old place.new result (operation_at depth form (row_of row) room) }
+    ensures { ReadsRow cursor.old cursor.new result (operation_at depth form (row_of row) room) }
 {
     match form {
         Infix::Comma => {
-            let left = row.settle(place.alloc, 0)?;
-            operation(lent, SizedOp::comma(), left, room, place, depth)
+            let left = row.settle(cursor.alloc, 0)?;
+            operation(lent, SizedOp::comma(), left, room, cursor, depth)
         }
         Infix::Assign(sign) => {
-            let left = row.settle(place.alloc, 1)?;
-            operation(lent, SizedOp::assign(sign), left, room, place, depth)
+            let left = row.settle(cursor.alloc, 1)?;
+            operation(lent, SizedOp::assign(sign), left, room, cursor, depth)
         }
         Infix::Question => {
-            let left = row.settle(place.alloc, 2)?;
-            question(lent, left, room, place, depth)
+            let left = row.settle(cursor.alloc, 2)?;
+            question(lent, left, room, cursor, depth)
         }
         Infix::Binary(sign) => {
-            let left = row.settle(place.alloc, level_of_binary(sign) + 2)?;
-            operation(lent, SizedOp::binary(sign), left, room, place, depth)
+            let left = row.settle(cursor.alloc, level_of_binary(sign) + 2)?;
+            operation(lent, SizedOp::binary(sign), left, room, cursor, depth)
         }
-        Infix::Nothing => Err(refused(Fault::Unexpected, place.rest)),
+        Infix::Nothing => Err(refused(FaultKind::Unexpected, cursor.rest)),
     }
 }

@@ -4,7 +4,7 @@ use Rattle.type_table.specs.Types.{CType}
 use Rattle.name_rules.specs.Values.{Shape, a_place, value, index_type, is_vector_index, index_shape, Candidate, Association, is_candidate, is_of_type, has_of_type, candidates_of, all_candidates, or_all, selected}
 use Rattle.name_rules.specs.ShapeSteps.State.{State, shape_at, is_zero_at, type_at}
 use Rattle.name_rules.specs.ShapeSteps.Steps.{twice, candidate_at, associations}
-use Rattle.type_table.specs.declared.row.Row.{Row}
+use Rattle.type_table.specs.declared.row.TypeRow.{TypeRow}
 use Rattle.expr_shapes.specs.declared.shape_values.shape.ExprShape.{ExprShape}
 use Rattle.expr_shapes.specs.ShapeValues.Views.{shape_in}
 use Rattle.expr_shapes.specs.ShapeValues.Picks.{candidate_in}
@@ -22,12 +22,14 @@ with_is : (b : Bool) (all : List Candidate) (it : Candidate) →
 with_is true all it = refl
 with_is false all it = sym (append-nil all)
 
+-- without a type to go by the candidates are those before and all expressions of the associations
 all_on : (t : Option CType) (front : List Candidate) (all : List Association) →
     picked_on false t front all ≡ front ++ all_candidates all
 all_on t front [] = sym (append-nil front)
 all_on t front (it ∷ others) =
     all_on t (front ++ it.candidate ∷ []) others ∙ append_assoc front (it.candidate ∷ []) (all_candidates others)
 
+-- with a type to go by the candidates are those before and the expressions of the associations for it
 some_on : (t : CType) (front : List Candidate) (all : List Association) →
     picked_on true (Some t) front all ≡ front ++ candidates_of t all
 some_on t front [] = sym (append-nil front)
@@ -36,6 +38,7 @@ some_on t front (it ∷ others) =
     ap (λ (xs : List Candidate). xs ++ candidates_of t others) (with_is (is_candidate t it.type) front it.candidate) ∙
     append_assoc front (if is_candidate t it.type then it.candidate ∷ [] else []) (candidates_of t others)
 
+-- where some association is for the type, its candidates stand, and no others
 or_some : (t : CType) (all : List Association) (others : List Candidate) → has_of_type (Some t) all ≡ true →
     or_all (candidates_of t all) others ≡ candidates_of t all
 or_some t [] others has = absurd cc
@@ -47,6 +50,7 @@ or_some t (it ∷ all) others has = by (is_candidate t it.type) (or_some t all o
   by true h has = refl
   by false h has = h has
 
+-- where no association is for the type, the other candidates stand for its own
 or_others : (t : CType) (all : List Association) (others : List Candidate) → has_of_type (Some t) all ≡ false →
     or_all (candidates_of t all) others ≡ others
 or_others t [] others has = refl
@@ -73,12 +77,15 @@ selected_is h o t all o_is is =
 abbrev made : Shape → Bool → Candidate
 made shape is_zero = record { shape = shape; is_zero = is_zero }
 
-pub candidate_same : (rows : List Row) (shape : ExprShape) (is_zero : Bool) (n m : ℕ) (st : State) →
-    shape_in rows shape ≡ shape_at n st → is_zero ≡ is_zero_at n st → n ≡ m → candidate_in rows shape is_zero ≡ candidate_at m st
+-- the candidate made of an operand's shape, and of whether it is a zero, is that of the same depth on the stack
+pub candidate_same : (rows : List TypeRow) (shape : ExprShape) (is_zero : Bool) (n m : ℕ) (st : State) →
+    shape_in rows shape ≡ shape_at n st → is_zero ≡ is_zero_at n st → n ≡ m
+    → candidate_in rows shape is_zero ≡ candidate_at m st
 candidate_same rows shape is_zero n m st shape_is zero_is at =
     ap (λ (s : Shape). made s is_zero) shape_is ∙ ap (λ (b : Bool). made (shape_at n st) b) zero_is ∙
     ap (λ (k : ℕ). candidate_at k st) at
 
+-- an index into a number in wider C has the shape of the number
 pub vector_shape : (wide same : Bool) (e e2 : Shape) → wide ≡ same → is_vector_index wide e e2 ≡ true
     → index_shape same e e2 ≡ e
 vector_shape wide same e e2 is vector =

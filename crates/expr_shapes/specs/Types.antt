@@ -1,6 +1,6 @@
 -- What numbers of types without annotation words stand for.
 use Rattle.std.specs.Prelude.{◌≡◌, ℕ, Bool, false, not, List, [], Option, None, Some}
-use Rattle.type_table.specs.declared.row.Row.{Row}
+use Rattle.type_table.specs.declared.row.TypeRow.{TypeRow}
 use Rattle.type_table.specs.Types.{CType, base, void}
 use Rattle.type_table.specs.Rows.{type_of}
 use Rattle.name_rules.specs.Values.{points_to_function, takes}
@@ -8,7 +8,7 @@ use Rattle.name_rules.specs.Uses.{text_type}
 use Rattle.expr_shapes.specs.declared.plain.Plain.{Plain}
 
 -- the numbers of the base type, of `void` and of the type of a text are right
-pub record ArePlain (rows : List Row) (it : Plain) : Type 0 where
+pub record ArePlain (rows : List TypeRow) (it : Plain) : Type 0 where
   pub base : type_of rows it.base ≡ base []
   pub void : type_of rows it.void ≡ void []
   pub text : type_of rows it.text ≡ text_type

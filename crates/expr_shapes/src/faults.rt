@@ -1,7 +1,7 @@
 //! Which ops of expressions are at fault, by the types of their operands.
 
 ghost use Rattle.std.specs.Prelude.{◌≡◌, ◌&&◌, not, List};
-ghost use Rattle.type_table.specs.declared.row.Row as row;
+ghost use Rattle.type_table.specs.declared.row.TypeRow as row;
 ghost use Rattle.name_rules.specs.Values.{is_base_value, is_no_pointer};
 ghost use Rattle.name_rules.specs.Checks.{wants_place, is_star};
 ghost use Rattle.expr_shapes.specs.ShapeValues.Views.{shape_in};
@@ -17,7 +17,7 @@ use type_table::TypeTable;
 
 /// Whether an expression is a place.
 fn is_place(shape: &ExprShape) -> bool
-    ensures { (rows : List row.Row) → result ≡ (shape_in rows shape.now).is_place }
+    ensures { (rows : List row.TypeRow) → result ≡ (shape_in rows shape.now).is_place }
 {
     match shape {
         ExprShape::Place(_) => true,

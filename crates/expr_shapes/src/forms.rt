@@ -1,7 +1,7 @@
 //! Expressions with a type name or a block, and the GNU forms.
 
 ghost use Rattle.std.specs.Prelude.{◌≡◌, ◌&&◌, ℕ, List, OnOk};
-ghost use Rattle.type_table.specs.declared.row.Row as row;
+ghost use Rattle.type_table.specs.declared.row.TypeRow as row;
 ghost use Rattle.name_rules.specs.Spellings.{Spelling};
 ghost use Rattle.name_rules.specs.Scopes.{Names};
 ghost use Rattle.expr_shapes.specs.ShapeValues.Views.{some_type, some_value_type};
@@ -20,7 +20,7 @@ use type_table::TypeTable;
 
 /// The value of a type that was named.
 fn value_of(ty: &Option<TypeId>) -> Option<ValueType>
-    ensures { (rows : List row.Row) → some_value_type rows result ≡ some_type rows ty.now }
+    ensures { (rows : List row.TypeRow) → some_value_type rows result ≡ some_type rows ty.now }
 {
     match ty {
         Some(ty) => Some(ValueType::Of(*ty)),
@@ -30,7 +30,7 @@ fn value_of(ty: &Option<TypeId>) -> Option<ValueType>
 
 /// A type that was named. Constant time but for growth.
 pub fn named(stacks: &mut Stacks, ty: &Option<TypeId>) -> Result<(), NoMemory>
-    ensures { OnOk result ((rows : List row.Row)
+    ensures { OnOk result ((rows : List row.TypeRow)
         → state_in rows stacks.new
         ≡ states.operand_put 0 (states.named_type (some_type rows ty.now))
         (state_in rows stacks.old)) }
@@ -90,7 +90,7 @@ pub fn statements(
 
 /// An argument of a list of them. Constant time.
 pub fn va_arg(stacks: &mut Stacks) -> Result<(), NoMemory>
-    ensures { OnOk result ((rows : List row.Row) (u : Spelling) (s : Names) (token last : ℕ)
+    ensures { OnOk result ((rows : List row.TypeRow) (u : Spelling) (s : Names) (token last : ℕ)
         → state_in rows stacks.new
         ≡ steps.form_step u s (state_in rows stacks.old) (forms.VaArg token last)) }
 {
@@ -111,7 +111,7 @@ pub fn variadic(stacks: &mut Stacks, types: &TypeTable, plain: &Plain) -> Result
 
 /// A member in an offset, of which this type was found. Constant time.
 pub fn offset_member(stacks: &mut Stacks, ty: &Option<TypeId>) -> Result<(), NoMemory>
-    ensures { OnOk result ((rows : List row.Row)
+    ensures { OnOk result ((rows : List row.TypeRow)
         → state_in rows stacks.new
         ≡ states.operand_put 1 (states.named_type (some_type rows ty.now))
         (state_in rows stacks.old)) }

@@ -1,7 +1,7 @@
 //! Operands.
 
 ghost use Rattle.std.specs.Prelude.{◌≡◌, ℕ, List, OnOk};
-ghost use Rattle.type_table.specs.declared.row.Row as row;
+ghost use Rattle.type_table.specs.declared.row.TypeRow as row;
 ghost use Rattle.name_rules.specs.Spellings.{Spelling};
 ghost use Rattle.name_rules.specs.Scopes.{Names};
 ghost use Rattle.expr_shapes.specs.ShapeValues.Views.{shape_in};
@@ -19,7 +19,7 @@ use type_table::TypeTable;
 
 /// A name, of which this was found. Constant time but for growth.
 pub fn name(stacks: &mut Stacks, shape: &ExprShape) -> Result<(), NoMemory>
-    ensures { OnOk result ((rows : List row.Row)
+    ensures { OnOk result ((rows : List row.TypeRow)
         → state_in rows stacks.new
         ≡ states.put 0 (shape_in rows shape.now) (state_in rows stacks.old)) }
 {
@@ -70,7 +70,7 @@ pub fn text(stacks: &mut Stacks, types: &TypeTable, plain: &Plain) -> Result<(),
 
 /// `__extension__`. Constant time.
 pub fn extension(stacks: &mut Stacks) -> Result<(), NoMemory>
-    ensures { OnOk result ((rows : List row.Row) (u : Spelling) (s : Names) (token : ℕ)
+    ensures { OnOk result ((rows : List row.TypeRow) (u : Spelling) (s : Names) (token : ℕ)
         → state_in rows stacks.new
         ≡ steps.expr_step u s (state_in rows stacks.old) (exprs.Ext token)) }
 {

@@ -1,7 +1,7 @@
 //! Operators.
 
 ghost use Rattle.std.specs.Prelude.{◌≡◌, ◌&&◌, ℕ, Bool, List, OnOk, if◌then◌else◌};
-ghost use Rattle.type_table.specs.declared.row.Row as row;
+ghost use Rattle.type_table.specs.declared.row.TypeRow as row;
 ghost use Rattle.name_rules.specs.Spellings.{Spelling};
 ghost use Rattle.name_rules.specs.Scopes.{Names};
 ghost use Rattle.name_rules.specs.Values.{a_place, cond_type, is_base_value, is_no_pointer};
@@ -34,7 +34,7 @@ pub fn comma(stacks: &mut Stacks, types: &TypeTable) -> Result<(), NoMemory>
 /// An assignment. Constant time.
 pub fn assign(stacks: &mut Stacks) -> Result<(), NoMemory>
     ensures { OnOk result
-        ((rows : List row.Row) (u : Spelling) (s : Names) (sign : Punct) (token first last : ℕ)
+        ((rows : List row.TypeRow) (u : Spelling) (s : Names) (sign : Punct) (token first last : ℕ)
         → state_in rows stacks.new
         ≡ steps.expr_step u s (state_in rows stacks.old) (exprs.Assign sign token first last)) }
 {
@@ -179,7 +179,7 @@ pub fn arrow(stacks: &mut Stacks, types: &TypeTable) -> Result<(), NoMemory>
 
 /// A member, of which this type was found. Constant time.
 pub fn member(stacks: &mut Stacks, ty: &Option<TypeId>) -> Result<(), NoMemory>
-    ensures { OnOk result ((rows : List row.Row)
+    ensures { OnOk result ((rows : List row.TypeRow)
         → state_in rows stacks.new
         ≡ states.put 1 (a_place (some_type rows ty.now)) (state_in rows stacks.old)) }
 {

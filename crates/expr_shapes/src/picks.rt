@@ -6,7 +6,7 @@ ghost use Rattle.name_rules.specs.Scopes.{Names};
 ghost use Rattle.name_rules.specs.Values as rules;
 ghost use Rattle.name_rules.specs.Values.{is_of_type, has_of_type};
 ghost use Rattle.expr_shapes.specs.ShapeValues.Picks.{IsPicked};
-ghost use Rattle.type_table.specs.declared.row.Row as row;
+ghost use Rattle.type_table.specs.declared.row.TypeRow as row;
 ghost use Rattle.expr_shapes.specs.ShapeValues.Views.{shape_in};
 ghost use Rattle.tape_ops.specs.declared.expression.ExprOp.TheVariants as exprs;
 ghost use Rattle.type_table.specs.Types.{CType};
@@ -58,7 +58,7 @@ pub fn compat(stacks: &mut Stacks, types: &TypeTable, plain: &Plain) -> Result<(
 
 /// The place of a type that is not named, before the expression of `default`. Constant time but for growth.
 pub fn no_type(stacks: &mut Stacks) -> Result<(), NoMemory>
-    ensures { OnOk result ((rows : List row.Row) (u : Spelling) (s : Names)
+    ensures { OnOk result ((rows : List row.TypeRow) (u : Spelling) (s : Names)
         → state_in rows stacks.new
         ≡ steps.form_step u s (state_in rows stacks.old) forms.NoType) }
 {

@@ -1,8 +1,9 @@
 -- In a program of units, what is found at the key token of an expression is its shape.
-use Rattle.std.proofs.Common.{◌≡◌, ℕ, ◌≤◌, Bool, true, false, ◌&&◌, nat_eq, All, Contains, List, [], ◌∷◌, ◌++◌, map, Option, None, Some, inl, inr, refl, sym, ◌∙◌, ap, subst, arith}
+use Rattle.std.proofs.Common.{◌≡◌, ℕ, ◌≤◌, Bool, true, false, nat_eq, All, Contains, List, [], ◌∷◌, ◌++◌, map, Option, None, Some, inl, inr, refl, sym, ◌∙◌, ap, subst, arith}
 use Rattle.std.specs.Prelude.{if◌then◌else◌}
-use Rattle.std.proofs.lemmas.Bool.{eqb-true, eq-eqb}
+use Rattle.std.proofs.lemmas.Bool.{and_left}
 use Rattle.std.proofs.lemmas.List.Elements.{All-head, All-tail}
+use Rattle.qual_base.proofs.Tests.{ne_turned}
 use Rattle.tape_ops.specs.declared.op.Op.{Op}
 use Rattle.c_tree.specs.Ends.{key_token}
 use Rattle.c_tape.specs.Tape.{tape_of}
@@ -25,10 +26,6 @@ use Rattle.expr_type_laws.proofs.Once.{cons_cases, none_in, counted_keys, are_to
 both_false : (b c : Bool) → (if b then true else c) ≡ false → (b ≡ false) × (c ≡ false)
 both_false true c h = absurd cc
 both_false false c h = (refl, h)
-
-first_false : (b c : Bool) → b ≡ false → b && c ≡ false
-first_false true c is = absurd cc
-first_false false c is = refl
 
 -- the first of two lists
 
@@ -62,16 +59,7 @@ elsewhere u s (op ∷ tape) st ys at other =
     by_key (Some token) rest =
         ap (λ (b : Bool). if b then Some (op_shape st (step u s st op) op)
         else first_at (shapes_along u s (step u s st op) tape ++ ys) at)
-        (first_false (nat_eq u.unit at.0) (nat_eq token at.1) other) ∙ rest
-
--- numbers that differ one way round differ the other way round
-symmetric : (a b : ℕ) → nat_eq a b ≡ false → nat_eq b a ≡ false
-symmetric a b h = by_test (nat_eq b a) refl
-  where
-    by_test : (c : Bool) → nat_eq b a ≡ c → c ≡ false
-    by_test false is = refl
-    by_test true is =
-        absurd (let e : nat_eq a b ≡ true = eq-eqb a b (sym (eqb-true b a is)) in let no : true ≡ false = sym e ∙ h in cc)
+        (and_left (nat_eq u.unit at.0) (nat_eq token at.1) other) ∙ rest
 
 -- no source is of a unit number that none of the sources has
 other_unit : (n : ℕ) (sources : List Source) (it : Source) → Contains sources it → has_unit n sources ≡ false
@@ -100,7 +88,7 @@ among s (x ∷ sources) units it h token shape found = elim (cons_cases x source
       (sym e) found)
   | inr g ↦ elsewhere x.spelling s (tape_of x.items) nothing (shapes_among s (map tape_of_source sources))
       (place it.spelling token)
-      (symmetric it.spelling.unit x.spelling.unit (other_unit x.spelling.unit sources it g units.0))
+      (ne_turned it.spelling.unit x.spelling.unit (other_unit x.spelling.unit sources it g units.0))
       ∙ among s sources units.1 it g token shape found
 ]
 

@@ -1,7 +1,7 @@
 -- A token is the key of one expression at most, so what stands there is what is found first.
-use Rattle.std.proofs.Common.{◌≡◌, ℕ, zero, suc, ◌+◌, ◌≤◌, Bool, true, false, ◌&&◌, nat_eq, Contains, List, [], ◌∷◌, ◌++◌, Option, None, Some, ◌⊎◌, inl, inr, refl, ◌∙◌, ap, arith}
+use Rattle.std.proofs.Common.{◌≡◌, ℕ, zero, suc, ◌+◌, ◌≤◌, Bool, true, false, nat_eq, Contains, List, [], ◌∷◌, ◌++◌, Option, None, Some, ◌⊎◌, inl, inr, refl, ◌∙◌, ap, arith}
 use Rattle.std.specs.Prelude.{if◌then◌else◌}
-use Rattle.std.proofs.lemmas.Bool.{eq-eqb}
+use Rattle.std.proofs.lemmas.Bool.{eq-eqb, and_right, and_from}
 use Rattle.tape_ops.specs.declared.op.Op.{Op}
 use Rattle.tape_ops.specs.declared.op.Op.TheVariants as ops
 use Rattle.name_rules.specs.Spellings.{Spelling, place}
@@ -49,14 +49,6 @@ passes : {A : Type 0} (b : Bool) (x y : A) → b ≡ false → (if b then x else
 passes true x y is = absurd cc
 passes false x y is = refl
 
-both_true : (b c : Bool) → b ≡ true → c ≡ true → b && c ≡ true
-both_true true c is h = h
-both_true false c is h = absurd cc
-
-last_false : (b c : Bool) → c ≡ false → b && c ≡ false
-last_false true c is = is
-last_false false c is = refl
-
 one_more : (b : Bool) (m : ℕ) → b ≡ true → 1 ≤ (if b then 1 else 0) + m
 one_more true m is = omega arith
 one_more false m is = absurd cc
@@ -86,15 +78,17 @@ module _ (u : Spelling) (s : Names) where
     finds : (key : Option ℕ) → Contains (keyed u key x ++ rest) (keyed_at token shape)
         → added token key + counted_keys token tape ≤ 1
         → (Contains rest (keyed_at token shape) → 1 ≤ counted_keys token tape)
-        → (counted_keys token tape ≤ 1 → Contains rest (keyed_at token shape) → first_at rest (place u token) ≡ Some shape)
+        → (counted_keys token tape ≤ 1 → Contains rest (keyed_at token shape)
+        → first_at rest (place u token) ≡ Some shape)
         → first_at (keyed u key x ++ rest) (place u token) ≡ Some shape
     finds None g most one others = others (omega (arith, most)) g
     finds (Some t) g most one others = elim (cons_cases (keyed_at t x) rest (keyed_at token shape) g) [
       | inl e ↦ picks (is_place (place u t) (place u token)) (Some x) (first_at rest (place u token))
-          (both_true (nat_eq u.unit u.unit) (nat_eq t token) (eq-eqb u.unit u.unit refl) (same_token t token x shape e))
+          (and_from (nat_eq u.unit u.unit) (nat_eq t token) (eq-eqb u.unit u.unit refl) (same_token t token x shape e))
           ∙ ap (λ (k : Keyed). Some k.shape) e
       | inr f ↦ passes (is_place (place u t) (place u token)) (Some x) (first_at rest (place u token))
-          (last_false (nat_eq u.unit u.unit) (nat_eq t token) (other (nat_eq t token) (counted_keys token tape) most (one f)))
+          (and_right (nat_eq u.unit u.unit) (nat_eq t token)
+          (other (nat_eq t token) (counted_keys token tape) most (one f)))
           ∙ others (omega (arith, most)) f
     ]
 

@@ -50,8 +50,11 @@ operator_ends before (binary p) token first last = ends before _ token refl (λ 
 -- the operand of `&` is only addressed
 prefix_ends : (token : ℕ) (p : Punct) (e : Expr) (aims : Bool) (addressed taken : List Op)
     → EndsAt (prefix_tape token p e aims addressed taken) token
-prefix_ends token signs.Ampersand e aims addressed taken = ends addressed (ops.Expr (exprs.Prefix signs.Ampersand token (last_token e) (comes_by_pointer false e))) token refl (λ st behind. refl)
-prefix_ends token p e aims addressed taken = ends taken (ops.Expr (exprs.Prefix p token (last_token e) aims)) token refl (λ st behind. refl)
+prefix_ends token signs.Ampersand e aims addressed taken =
+    ends addressed (ops.Expr (exprs.Prefix signs.Ampersand token (last_token e) (comes_by_pointer false e))) token refl
+    (λ st behind. refl)
+prefix_ends token p e aims addressed taken =
+    ends taken (ops.Expr (exprs.Prefix p token (last_token e) aims)) token refl (λ st behind. refl)
 
 module _ (u : Spelling) (s : Names) where
   -- what the last op of a tape stands for
@@ -90,7 +93,8 @@ module _ (u : Spelling) (s : Names) where
       let at : Shape → Keyed = λ it. record { at = place u key; shape = it } in
       subst (λ (it : Shape). Contains (shapes_along u s st tape) (at it))
       (p.on_top (run u s st p.before) (run u s st tape) ∙ left)
-      (subst (λ (xs : List Op). Contains (shapes_along u s st xs) (at (op_shape (run u s st p.before) (run u s st xs) p.last)))
+      (subst (λ (xs : List Op).
+      Contains (shapes_along u s st xs) (at (op_shape (run u s st p.before) (run u s st xs) p.last)))
       (sym p.parts) (last_stands p.before p.last st key p.has_key))
 
   module _ (left : ShapesAreLeft) where
@@ -101,7 +105,8 @@ module _ (u : Spelling) (s : Names) where
         ended_stands (expr_tape called e) (key_token e) (shape_of u s e) st p (ap (shape_at 0) (left u s e called st))
 
     -- a compound literal stands before its list is gone through once more, which leaves it as it was
-    literal_stands : (opening : ℕ) (ws : SpecWords) (d : SomeDeclr) (closing : ℕ) (list : InitList) (called : Bool) (st : State)
+    literal_stands : (opening : ℕ) (ws : SpecWords) (d : SomeDeclr) (closing : ℕ) (list : InitList)
+        (called : Bool) (st : State)
         → Contains (shapes_along u s st (expr_tape called (compound opening ws d closing list)))
         (expression_at u s (compound opening ws d closing list))
     literal_stands opening ws d closing list called st =
@@ -120,9 +125,11 @@ module _ (u : Spelling) (s : Names) where
         let is : literal_on (run u s st front) ≡ shape_of u s e =
         sym kept ∙ sym top ∙ ap (λ (b : State). shape_at 0 b) (left u s e called st) in
         let there = last_stands front (ops.Init (inits.Literal opening)) st opening refl in
-        subst (λ (xs : List Keyed). Contains xs (expression_at u s e)) (sym (shapes_append u s ruled (init inits.LiteralEnd) st))
+        subst (λ (xs : List Keyed). Contains xs (expression_at u s e))
+        (sym (shapes_append u s ruled (init inits.LiteralEnd) st))
         (Contains-append_left (shapes_along u s st ruled) _ (expression_at u s e)
-        (subst (λ (xs : List Keyed). Contains xs (expression_at u s e)) (sym (shapes_append u s behind (rule_of_list list) st))
+        (subst (λ (xs : List Keyed). Contains xs (expression_at u s e))
+        (sym (shapes_append u s behind (rule_of_list list) st))
         (Contains-append_left (shapes_along u s st behind) _ (expression_at u s e)
         (subst (λ (it : Shape). Contains (shapes_along u s st behind) (at it)) is there))))
 
@@ -136,7 +143,8 @@ module _ (u : Spelling) (s : Names) where
         by_last (prefix token p e) called st (prefix_ends token p e false (tape_in false true e) (expr_tape false e))
     expr_stands (sizeof_value word e) called st =
         by_last (sizeof_value word e) called st
-        (ends (stmt stmts.Quiet ++ expr_tape false e) (ops.Form (forms.Sizeof word.token)) word.token refl (λ st behind. refl))
+        (ends (stmt stmts.Quiet ++ expr_tape false e) (ops.Form (forms.Sizeof word.token)) word.token refl
+        (λ st behind. refl))
     expr_stands (sizeof_type word opening ws d closing) called st =
         by_last (sizeof_type word opening ws d closing) called st
         (ends (stmt stmts.Quiet ++ type_name_with (words_tape false ws) (some_declr_tape d) (first_word ws))
@@ -190,7 +198,8 @@ module _ (u : Spelling) (s : Names) where
         (ops.Form (forms.Compat keyword)) keyword refl (λ st behind. refl))
     expr_stands (choose keyword opening e separator e2 separator2 e3 closing) called st =
         by_last (choose keyword opening e separator e2 separator2 e3 closing) called st
-        (ends (quietly (expr_tape false e) ++ expr_tape false e2 ++ expr_tape false e3) (ops.Form (forms.Choose keyword)) keyword refl (λ st behind. refl))
+        (ends (quietly (expr_tape false e) ++ expr_tape false e2 ++ expr_tape false e3)
+        (ops.Form (forms.Choose keyword)) keyword refl (λ st behind. refl))
     expr_stands (generic keyword opening e xs closing) called st =
         by_last (generic keyword opening e xs closing) called st
         (ends (stmt stmts.Quiet ++ expr_tape false e ++ form forms.Control ++ assocs_tape xs)
@@ -198,4 +207,5 @@ module _ (u : Spelling) (s : Names) where
 
 pub expressions_stand : ShapesAreLeft → ExpressionsStand
 expressions_stand left u s st before called e behind =
-    within u s before (expr_tape called e) behind st (expression_at u s e) (expr_stands u s left e called (run u s st before))
+    within u s before (expr_tape called e) behind st (expression_at u s e)
+    (expr_stands u s left e called (run u s st before))

@@ -16,5 +16,7 @@ use Rattle.expr_types.specs.Along.{shapes_among, first_at}
 abbrev pub ShapesAreFound : Type 0
 ShapesAreFound =
     (sources : List Source) → All IsRead sources → UnitsDiffer sources → (s : Names) (it : Source) → Contains sources it
-    → (before : List Op) (called : Bool) (e : Expr) (behind : List Op) → tape_of it.items ≡ before ++ expr_tape called e ++ behind
-    → first_at (shapes_among s (map tape_of_source sources)) (place it.spelling (key_token e)) ≡ Some (shape_of it.spelling s e)
+    → (before : List Op) (called : Bool) (e : Expr) (behind : List Op)
+    → tape_of it.items ≡ before ++ expr_tape called e ++ behind
+    → first_at (shapes_among s (map tape_of_source sources)) (place it.spelling (key_token e))
+    ≡ Some (shape_of it.spelling s e)

@@ -1,5 +1,5 @@
 -- What is found first in the parts of a list is what is found first in all of it.
-use Rattle.std.proofs.Common.{◌≡◌, ◌++◌, ◌+◌, ◌<◌, ℕ, zero, suc, arith, length, drop, slice_index_or, Bool, true, false, List, [], ◌∷◌, Option, None, Some, Result, Ok, Err, OnOk, refl, sym, ◌∙◌, ap, if◌then◌else◌}
+use Rattle.std.proofs.Common.{◌≡◌, ◌++◌, ◌+◌, ◌<◌, ℕ, zero, suc, arith, length, drop, slice_index_or, Bool, true, false, List, [], ◌∷◌, Option, None, Some, refl, sym, ◌∙◌, ap, if◌then◌else◌}
 use Rattle.tape_ops.specs.declared.op.Op.{Op}
 use Rattle.name_rules.specs.Spellings.{Spelling, Place}
 use Rattle.name_rules.specs.Scopes.{Names, is_place}
@@ -11,10 +11,6 @@ use Rattle.unit_types.specs.declared.program.UnitTape.{UnitTape}
 use Rattle.unit_types.specs.Resolved.{tape_of, tapes_of}
 use Rattle.expr_types.specs.Along.{Keyed, op_shape, keyed, shapes_along, shapes_among, first_at}
 use Rattle.expr_types.specs.Keys.{op_key}
-
-pub on_ok : {A E P Q : Type 0} (r : Result A E) → (P → Q) → OnOk r P → OnOk r Q
-on_ok (Ok a) f h = f h
-on_ok (Err e) f h = h
 
 or_assoc : {V : Type 0} (a b c : Option V) → or_else (or_else a b) c ≡ or_else a (or_else b c)
 or_assoc None b c = refl
@@ -63,6 +59,7 @@ pub next_unit : (s : Names) (units : List UnitTape) (i : ℕ) (it : UnitTape) �
     ≡ shapes_among s (drop i (tapes_of units))
 next_unit s [] i it is lt = absurd (omega arith)
 next_unit s (x ∷ units) zero it is lt =
-    ap (λ (x : UnitTape). shapes_along (tape_of x).spelling s nothing (tape_of x).ops ++ shapes_among s (tapes_of units)) is
+    ap (λ (x : UnitTape). shapes_along (tape_of x).spelling s nothing (tape_of x).ops
+    ++ shapes_among s (tapes_of units)) is
 next_unit s (x ∷ units) (suc i) it is lt =
     let e : suc i + 1 ≡ suc (i + 1) = omega arith in rw e (next_unit s units i it is (omega arith))

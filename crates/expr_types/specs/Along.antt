@@ -1,6 +1,5 @@
 -- The expressions along tapes, in the order of the ops that end them, each with its key token and with what it is; and
--- what is
--- found at a token.
+-- what is found at a token.
 use Rattle.std.specs.Prelude.{List, [], ◌∷◌, ◌++◌, ℕ, Option, None, Some, if◌then◌else◌}
 use Rattle.tape_ops.specs.declared.op.Op.{Op}
 use Rattle.tape_ops.specs.declared.op.Op.TheVariants as ops
@@ -41,7 +40,8 @@ keyed u (Some token) shape = record { at = place u token; shape = shape } ∷ []
 -- the expressions of a tape, from this state on
 abbrev pub shapes_along : Spelling → Names → State → List Op → List Keyed
 shapes_along u s st [] = []
-shapes_along u s st (op ∷ tape) = keyed u (op_key op) (op_shape st (step u s st op) op) ++ shapes_along u s (step u s st op) tape
+shapes_along u s st (op ∷ tape) =
+    keyed u (op_key op) (op_shape st (step u s st op) op) ++ shapes_along u s (step u s st op) tape
 
 -- the expressions of units, one unit behind the other
 abbrev pub shapes_among : Names → List Tape → List Keyed

@@ -1,6 +1,6 @@
 -- What a program has of expressions, with the types of a table in place of their numbers.
 use Rattle.std.specs.Prelude.{List, Option, None, Some}
-use Rattle.type_table.specs.declared.row.Row.{Row}
+use Rattle.type_table.specs.declared.row.TypeRow.{TypeRow}
 use Rattle.type_table.specs.Types.{CType}
 use Rattle.name_rules.specs.Spellings.{Place}
 use Rattle.name_rules.specs.Values.{Shape}
@@ -13,12 +13,12 @@ use Rattle.unit_types.specs.Resolved.{Resolved, tapes_of}
 use Rattle.expr_types.specs.Along.{Keyed, shapes_among, first_at, type_found_at}
 
 -- an expression, where there is one, with its type in place of the type's number
-abbrev pub some_shape_in : List Row → Option ExprShape → Option Shape
+abbrev pub some_shape_in : List TypeRow → Option ExprShape → Option Shape
 some_shape_in rows None = None
 some_shape_in rows (Some shape) = Some (shape_in rows shape)
 
 -- what a table has at a place
-abbrev pub found_at : List Row → PlaceMap ExprShape → Place → Option Shape
+abbrev pub found_at : List TypeRow → PlaceMap ExprShape → Place → Option Shape
 found_at rows found at = some_shape_in rows (value_at found at)
 
 -- the expressions of resolved units

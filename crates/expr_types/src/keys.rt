@@ -1,7 +1,7 @@
 //! Key tokens.
 
 ghost use Rattle.std.specs.Prelude.{◌≡◌};
-ghost use Rattle.expr_types.specs.Keys.{expr_op_key, form_op_key, init_op_key, op_key};
+ghost use Rattle.expr_types.specs.Keys.{expr_op_key, form_key, init_key, op_key};
 
 use qual_base::TokenId;
 use tape_ops::{ExprOp, FormOp, InitOp, Op};
@@ -34,7 +34,7 @@ fn expression_key(op: ExprOp) -> Option<TokenId>
 
 /// The key token of an expression with a type name or a block.
 fn form_key(op: FormOp) -> Option<TokenId>
-    ensures { result ≡ form_op_key op }
+    ensures { result ≡ form_key op }
 {
     match op {
         FormOp::Cast { token, .. } => Some(token),
@@ -56,7 +56,7 @@ fn form_key(op: FormOp) -> Option<TokenId>
 
 /// The key token of a compound literal.
 fn literal_key(op: InitOp) -> Option<TokenId>
-    ensures { result ≡ init_op_key op }
+    ensures { result ≡ init_key op }
 {
     match op {
         InitOp::Value { .. } => None,

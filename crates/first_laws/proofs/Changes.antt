@@ -2,6 +2,7 @@
 use Rattle.std.proofs.Common.{◌≡◌, inl, inr, ℕ, nat_eq, Bool, true, false, List, [], ◌∷◌, ◌++◌, Option, None, Some, refl, sym, ◌∙◌, ap, subst}
 use Rattle.std.specs.Prelude.{◌&&◌, ◌||◌, if◌then◌else◌}
 use Rattle.std.proofs.lemmas.Bool.{eq-eqb, eqb-true}
+use Rattle.qual_base.proofs.Tests.{ne_turned}
 use Rattle.c_words.specs.declared.kinds.Keyword.{Keyword}
 use Rattle.c_words.specs.declared.kinds.Keyword.TheVariants as keywords
 use Rattle.c_syntax.specs.declared.parts.Identifier.{Identifier}
@@ -22,7 +23,7 @@ use Rattle.type_rules.specs.Naming.{identifiers_named, typed_by}
 use Rattle.name_rules.specs.MeaningLaws.Meanings.{Differ}
 use Rattle.name_rules.proofs.MeaningLaws.Lists.{at_more, at_new, differ_before, last_is_new, linked_is, things_map}
 use Rattle.first_laws.specs.Firsts.{HasSkeletonAt, has_skeleton}
-use Rattle.first_laws.proofs.Words.{AreOf, kind_own, kind_other, no_constant, other_way}
+use Rattle.first_laws.proofs.Words.{AreOf, kind_own, kind_other, no_constant}
 use Rattle.first_laws.proofs.Growing.{Grew, Grown, one_name, same_grew}
 use Rattle.first_laws.proofs.Fitting.{Level, plain, Agree, Agrees, Fine, FirstsAre, Fit, Holds, KeptFits, OneFits, ScopeAgrees, ScopesFit, Stands, Stay, agrees_stays, done, firsts_stay, kept_stays, outer_fit, scopes_stay, skeleton_stays}
 
@@ -175,13 +176,15 @@ module _ (u : Spelling) (N : ℕ → Type 0) (keys : (m n : ℕ) → N m → N n
       let stay = new_stays s.declared d in record {
         scopes = scopes_stay u N stay (plain q ∷ qs) h s.scopes it.scopes;
         kept = kept_stays u N stay k s.kept it.kept;
-        things = things_map (HasSkeletonAt s.declared) (HasSkeletonAt (s.declared ++ d ∷ [])) (λ p. skeleton_stays stay p)
+        things =
+            things_map (HasSkeletonAt s.declared) (HasSkeletonAt (s.declared ++ d ∷ [])) (λ p. skeleton_stays stay p)
             s.things it.things;
         firsts = firsts_more (s.declared ++ d ∷ []) s.declared d (firsts_stay stay s.declared it.firsts) g;
       }
 
   -- a name that is bound, as the grammar's scope declares it
-  bound_agrees : (ds : List Declared) (names : List (ℕ × Meaning)) (scope : HeldScope) (m : ℕ) (kind : Kind) (it : Meaning) →
+  bound_agrees : (ds : List Declared) (names : List (ℕ × Meaning)) (scope : HeldScope) (m : ℕ) (kind : Kind)
+      (it : Meaning) →
       N m → ScopeAgrees u N ds names scope → Agrees ds (Some it) (kind_in (with_name scope m kind).names m) →
       ScopeAgrees u N ds ((u.key m, it) ∷ names) (with_name scope m kind)
   bound_agrees ds names scope m kind it own h g n other =
@@ -250,7 +253,8 @@ module _ (u : Spelling) (N : ℕ → Type 0) (keys : (m n : ℕ) → N m → N n
       by n true h = g (kind_in old.names n)
       by n false h = h
 
-  bind_held : (q : Option ℕ) (qs : List Level) (k : Option HeldScope) (h : HeldScopes) (s : Names) (m : ℕ) (it : Meaning) →
+  bind_held : (q : Option ℕ) (qs : List Level) (k : Option HeldScope) (h : HeldScopes) (s : Names) (m : ℕ)
+      (it : Meaning) →
       ((kind : Option Kind) → Agrees s.declared (Some it) kind) → A q qs k h s → A q qs k h (bound (u.key m) it s)
   bind_held q qs k h s m it g f = record {
     scopes = held_scopes s.declared q qs h s.scopes m it g f.scopes;
@@ -353,7 +357,8 @@ module _ (u : Spelling) (N : ℕ → Type 0) (keys : (m n : ℕ) → N m → N n
         F (held_behind lets (Some m)) qs k (scopes_behind lets kind h) (declared_thing words at (u.key m) t s) ts
     thing_fits lets m kind words at t f =
         by (has_word keywords.Static words) (is_place (linked (u.key m) at s) at)
-        (owner_where (with_thing words at (u.key m) s) (linked (u.key m) at s) at (if is_function t then Some at else None))
+        (owner_where (with_thing words at (u.key m) s) (linked (u.key m) at s) at
+        (if is_function t then Some at else None))
       where
         role_has : (c : Bool) → has_skeleton (if c then function_role else object_role) ≡ true
         role_has true = refl
@@ -380,7 +385,8 @@ module _ (u : Spelling) (N : ℕ → Type 0) (keys : (m n : ℕ) → N m → N n
         linked_has : (owner : Option Place) → Differ (s.declared ++ as_d owner ∷ []) → A (Some m) qs k h s →
             HasSkeletonAt (s.declared ++ as_d owner ∷ []) (linked (u.key m) at s)
         linked_has owner differ old =
-            or_here (s.declared ++ as_d owner ∷ []) (or_place (thing_of at.0 s.things (u.key m)) (thing_of 0 s.things (u.key m)))
+            or_here (s.declared ++ as_d owner ∷ [])
+            (or_place (thing_of at.0 s.things (u.key m)) (thing_of 0 s.things (u.key m)))
             (λ p e. skeleton_stays (new_stays s.declared (as_d owner)) p
             (linked_is (HasSkeletonAt s.declared) at.0 s.things (u.key m) old.things p e)) (here owner differ)
 
@@ -446,7 +452,8 @@ module _ (u : Spelling) (N : ℕ → Type 0) (keys : (m n : ℕ) → N m → N n
       → S ds qs outer scopes →
       S ds (plain None ∷ qs) (release kind (now ∷ outer)) (names ∷ scopes)
   one_let_go ds q qs kind outer names scopes scope now g one f =
-      subst (λ (t : HeldScopes). S ds (plain None ∷ qs) t (names ∷ scopes)) (sym (release_is kind (now ∷ outer) q held_now)) (by q held_now)
+      subst (λ (t : HeldScopes). S ds (plain None ∷ qs) t (names ∷ scopes))
+      (sym (release_is kind (now ∷ outer) q held_now)) (by q held_now)
     where
       held_now : now.held ≡ q
       held_now = g.holds refl ∙ held_is q scope one.0
@@ -475,7 +482,8 @@ module _ (u : Spelling) (N : ℕ → Type 0) (keys : (m n : ℕ) → N m → N n
       subst (λ (s : HeldScopes). S ds (plain None ∷ qs) (release kind s) (names ∷ scopes)) (sym it.are)
       (one_let_go ds q qs kind h names scopes scope it.now it.grown f.0.0 f.1)
 
-  pub let_go : {q : Option ℕ} {qs : List Level} {k : Option HeldScope} {h t : HeldScopes} {s : Names} {ts vs : List Lexeme}
+  pub let_go : {q : Option ℕ} {qs : List Level} {k : Option HeldScope} {h t : HeldScopes} {s : Names}
+      {ts vs : List Lexeme}
       (kind : Kind) → Grew true h t → AreOf N vs → F q qs k h s ts → F None qs k (release kind t) s vs
   let_go {q} {qs} {k} {h} {t} {s} kind g past f = record {
     names = past;
@@ -501,12 +509,14 @@ module _ (u : Spelling) (N : ℕ → Type 0) (keys : (m n : ℕ) → N m → N n
     -- a name that is declared behind a list of identifiers
     pub old_fits : (lets : Bool) (kind : Kind) (own : Option Place) (it : Option Named) (t : CType) (olds : Olds) →
         F (holding it None) qs k h olds.names ts →
-        F (held_behind lets (holding it None)) qs k (scopes_behind lets kind h) (old_declared_some u own it t olds).names ts
+        F (held_behind lets (holding it None)) qs k (scopes_behind lets kind h)
+        (old_declared_some u own it t olds).names ts
     old_fits lets kind own None t olds f = unnamed lets kind f
     old_fits lets kind own (Some it) t olds f = by (number_of_identifier (u.key it.name) olds.list)
       where
         by : (o : Option ℕ) →
-            F (held_behind lets (Some it.name)) qs k (scopes_behind lets kind h) (old_declared u own it t o olds).names ts
+            F (held_behind lets (Some it.name)) qs k (scopes_behind lets kind h)
+            (old_declared u own it t o olds).names ts
         by None = unnamed lets kind (alike refl refl refl refl f)
         by (Some i) =
             object_fits lets it.name kind (place u it.token) (parameter_role i) t own refl
@@ -517,11 +527,14 @@ module _ (u : Spelling) (N : ℕ → Type 0) (keys : (m n : ℕ) → N m → N n
         F None qs k (release Value h) (declared_param u it i own t s) ts
     param_fits None i own t f = none_released Value f
     param_fits (Some it) i own t f =
-        object_fits true it.name Value (place u it.token) (parameter_role i) t own refl (sized_fits (place u it.token) t f)
+        object_fits true it.name Value (place u it.token) (parameter_role i) t own refl
+        (sized_fits (place u it.token) t f)
 
-    pub some_fits : (lets : Bool) (kind : Kind) (untagged : Option ℕ) (it : Option Named) (words : List Keyword) (t : CType) →
+    pub some_fits : (lets : Bool) (kind : Kind) (untagged : Option ℕ) (it : Option Named)
+        (words : List Keyword) (t : CType) →
         F (holding it None) qs k h s ts →
-        F (held_behind lets (holding it None)) qs k (scopes_behind lets kind h) (declared_some u untagged it words t s) ts
+        F (held_behind lets (holding it None)) qs k (scopes_behind lets kind h)
+        (declared_some u untagged it words t s) ts
     some_fits lets kind untagged None words t f = unnamed lets kind f
     some_fits lets kind untagged (Some it) words t f =
         known_fits words (u.key it.name) untagged
@@ -556,7 +569,8 @@ module _ (u : Spelling) (N : ℕ → Type 0) (keys : (m n : ℕ) → N m → N n
             type = t;
             owner = owner_where s at at own;
           } in
-          alone q qs k h s d (λ is. (d, last_found s.declared d differ, refl)) (f.agree (differ_before s.declared (d ∷ []) differ));
+          alone q qs k h s d (λ is. (d, last_found s.declared d differ, refl))
+          (f.agree (differ_before s.declared (d ∷ []) differ));
     }
 
     pub unnamed_fits : (at : Place) (n : ℕ) (t : CType) → F q qs k h s ts → F q qs k h (unnamed_member at n t s) ts
@@ -616,7 +630,7 @@ module _ (u : Spelling) (N : ℕ → Type 0) (keys : (m n : ℕ) → N m → N n
               (
                 g.1.0,
                 λ is. g.1.1
-                    (sym (kind_other (held.innermost h) m Constant n (other_way n m apart)) ∙ is),
+                    (sym (kind_other (held.innermost h) m Constant n (ne_turned n m apart)) ∙ is),
               ),
             )
 
@@ -635,11 +649,10 @@ module _ (u : Spelling) (N : ℕ → Type 0) (keys : (m n : ℕ) → N m → N n
               (kind_in (held.innermost h).names m) at d
               (agrees_stays (new_stays s.declared d) (inner_meaning s (u.key m)) (kind_in (held.innermost h).names m)
               (one.1 m name)) (last_found s.declared d differ) in
-              bind q q qs k h (with_declared d s) m Constant (means_thing (the_thing (inner_meaning s (u.key m)) at)) scope
-              refl (still_holds q free one.0) name
+              bind q q qs k h (with_declared d s) m Constant
+              (means_thing (the_thing (inner_meaning s (u.key m)) at)) scope refl (still_holds q free one.0) name
               (subst (λ (o : Option Kind). Stands (s.declared ++ d ∷ []) (the_thing (inner_meaning s (u.key m)) at) o)
-              (sym (kind_own (held.innermost h) m Constant may)) first)
-              (alone q qs k h s d (λ is. absurd cc) old);
+              (sym (kind_own (held.innermost h) m Constant may)) first) (alone q qs k h s d (λ is. absurd cc) old);
         })
 
   -- a function's own parameters and its body
@@ -659,7 +672,8 @@ module _ (u : Spelling) (N : ℕ → Type 0) (keys : (m n : ℕ) → N m → N n
 
     -- a body may be counted or not
     pub body_entered_fits : {scope : HeldScope} {h : HeldScopes} (at first : Place) (is_plain is_counted : Bool) →
-        F q qs (Some scope) h s ts → F None (plain q ∷ qs) None (scope ∷ h) (body_entered at first is_plain is_counted s) ts
+        F q qs (Some scope) h s ts
+        → F None (plain q ∷ qs) None (scope ∷ h) (body_entered at first is_plain is_counted s) ts
     body_entered_fits {scope} {h} at first is_plain is_counted f = counted is_counted
       where
         by : (o : Option Scope) → KeptFits u N s.declared (Some scope) o → S s.declared (plain q ∷ qs) h s.scopes →
@@ -688,9 +702,8 @@ module _ (u : Spelling) (N : ℕ → Type 0) (keys : (m n : ℕ) → N m → N n
         }
 
   -- The scope of parameters that are declared behind a list of identifiers. In the grammar they are declared behind the
-  -- whole declarator,
-  -- in whose scope what else stands in it has declared enumerators by then. Among names nothing behind the list is
-  -- known yet.
+  -- whole declarator, in whose scope what else stands in it has declared enumerators by then. Among names nothing
+  -- behind the list is known yet.
 
   grown_holds : (q : Option ℕ) (scope now : HeldScope) → Grown true scope now → Holds u N q scope → Holds u N q now
   grown_holds None scope now g h = g.holds refl ∙ h
@@ -722,7 +735,8 @@ module _ (u : Spelling) (N : ℕ → Type 0) (keys : (m n : ℕ) → N m → N n
       by now [] f = absurd f
       by now (names ∷ scopes) f = ((f.0.1, tt), f.1)
 
-  pub beside_entered : {q : Option ℕ} {qs : List Level} {k : Option HeldScope} {s : Names} {ts vs : List Lexeme} (scope : HeldScope)
+  pub beside_entered : {q : Option ℕ} {qs : List Level} {k : Option HeldScope} {s : Names} {ts vs : List Lexeme}
+      (scope : HeldScope)
       (outer t : HeldScopes) → Grew true (scope ∷ outer) t → AreOf N vs → F q qs k (scope ∷ outer) s ts →
       F None ((q, Some scope) ∷ qs) k (held.enter t) (enter s) vs
   beside_entered {q} {qs} {k} {s} scope outer t g past f = record {
@@ -735,7 +749,8 @@ module _ (u : Spelling) (N : ℕ → Type 0) (keys : (m n : ℕ) → N m → N n
     };
   }
 
-  pub beside_kept : {q : Option ℕ} {qs : List Level} {k : Option HeldScope} {s : Names} {ts vs : List Lexeme} (own : Place)
+  pub beside_kept : {q : Option ℕ} {qs : List Level} {k : Option HeldScope} {s : Names}
+      {ts vs : List Lexeme} (own : Place)
       (scope : HeldScope) (outer t w : HeldScopes) → Grew true (scope ∷ outer) t → held.leave w ≡ t → AreOf N ts →
       F None ((q, Some scope) ∷ qs) k w s vs →
       F q qs (Some (held.innermost w)) (scope ∷ outer) (keep (Some own) s) ts

@@ -1,7 +1,6 @@
 -- What is known of names, as trees' scopes see it, against scopes of names in the grammar: where a name of a scope
--- means what has no
--- skeleton, the grammar's scope declares it as an enumerator. What is asked of declarations holds where no two are at
--- one place.
+-- means what has no skeleton, the grammar's scope declares it as an enumerator. What is asked of declarations holds
+-- where no two are at one place.
 use Rattle.std.proofs.Common.{◌≡◌, ◌⊎◌, inl, inr, ℕ, Bool, true, false, List, [], ◌∷◌, ◌++◌, Option, None, Some, refl, subst}
 use Rattle.c_tree.specs.declared.lexeme.Lexeme.{Lexeme}
 use Rattle.typedef_scope.specs.declared.kind.Kind.{Kind}
@@ -195,7 +194,8 @@ module _ {u : Spelling} {N : ℕ → Type 0} where
 
   -- a scope of its own
 
-  pub entered : {q : Option ℕ} {qs : List Level} {k : Option HeldScope} {h : HeldScopes} {s : Names} {ts : List Lexeme} →
+  pub entered : {q : Option ℕ} {qs : List Level} {k : Option HeldScope} {h : HeldScopes} {s : Names}
+      {ts : List Lexeme} →
       Fit u N q qs k h s ts → Fit u N None (plain q ∷ qs) k (held.enter h) (enter s) ts
   entered f = record {
     names = f.names;

@@ -1,9 +1,10 @@
 -- Scopes of names in the grammar grow through each part of a tree: what surrounds the innermost scope stays as it is,
--- each name that it
--- declares keeps its kind, and inside of what declares no name but enumerators it holds the name that it held.
+-- each name that it declares keeps its kind, and inside of what declares no name but enumerators it holds the name that
+-- it held.
 use Rattle.std.proofs.Common.{◌≡◌, ℕ, nat_eq, Bool, true, false, List, [], ◌∷◌, Option, None, Some, refl, sym, ◌∙◌, subst}
 use Rattle.std.specs.Prelude.{◌&&◌, not, if◌then◌else◌}
 use Rattle.std.proofs.lemmas.Bool.{eqb-true}
+use Rattle.qual_base.proofs.Tests.{ne_turned}
 use Rattle.c_syntax.specs.declared.parts.Identifier.{Identifier}
 use Rattle.c_tree.specs.Tree.{Expr, operation, cast, prefix, sizeof_value, sizeof_type, extension, index, call, dot, arrow, post, compound, name_use, number_use, char_use, text_use, paren, statement_expr, va_arg, va_start, va_copy, offset, Operator, comma, assign, cond, binary, SomeExpr, no_expr, some_expr, Exprs, no_exprs, more_exprs, SpecWords, no_words, more_words, SpecWord, storage, thread, inline_word, noreturn, qualifier, basic, struct_type, enum_type, typedef_name, attribute, SomeBody, no_body, some_body, StructItems, no_struct_items, more_struct_items, StructItem, member, member_semi, member_assert, MemDeclrs, no_mem_declrs, more_mem_declrs, MemDeclr, named, unnamed, SomeValue, no_value, some_value, EnumType, enum_of, SomeEnumBody, no_enum_body, some_enum_body, Enumerators, no_enumerators, more_enumerators, Declr, pointer, declr_name, declr_paren, array, params, abs_pointer, abs_paren, abs_array, abs_params, SomeDeclr, no_declr, some_declr, SomeSize, no_size, some_size, ArraySize, size_value, size_star, Params, no_params, more_params, Init, init_value, init_braced, InitList, init_list, InitItems, no_init_items, more_init_items, Desigs, no_desigs, more_desigs, Desig, member_desig, index_desig, SomeInit, no_init, some_init, InitDeclrs, no_init_declrs, more_init_declrs, Declaration, declaration, Decl, decl_declaration, decl_assert, BlockItems, no_block_items, more_block_items, BlockItem, block_decl, block_stmt, Stmt, block, expr_stmt, attr_stmt, label, case_stmt, default_stmt, if_stmt, switch_stmt, while_stmt, do_stmt, for_stmt, goto_stmt, continue_stmt, break_stmt, return_stmt, asm_stmt, SomeElse, no_else, some_else, ForStart, start_declaration, start_value, identifiers, base_name, complex_part, label_use, compat, choose, generic, Assocs, no_assocs, more_assocs, Assoc, typed_assoc, default_assoc, typeof_value, typeof_type, align, auto_word, range_desig, old_desig, block_labels, case_range, goto_value}
 use Rattle.c_tree.specs.WellFormed.{has_auto}
@@ -13,7 +14,7 @@ use Rattle.typedef_scope.specs.Scopes.{kind_in}
 use Rattle.c_units.specs.HeldScopes.{HeldScope, HeldScopes, declare, enter, hold, is_name, is_typedef, is_wide, leave, may_declare, names_type, new_scope, release, release_as, with_kind, with_name}
 use Rattle.c_units.specs.Units.{declarations_scopes}
 use Rattle.c_units.specs.Scoping.{is_base, at_name, behind, declared_kind, some_shows_no_type, where_true, identifiers_scopes, expr_scopes, assocs_scopes, assoc_scopes, operator_scopes, some_expr_scopes, exprs_scopes, spec_words_scopes, spec_word_scopes, some_body_scopes, struct_items_scopes, struct_item_scopes, mem_declrs_scopes, mem_declr_scopes, some_value_scopes, enum_type_scopes, some_enum_body_scopes, enumerators_scopes, declr_scopes, some_declr_scopes, some_size_scopes, array_size_scopes, params_scopes, init_scopes, init_list_scopes, init_items_scopes, desigs_scopes, desig_scopes, some_init_scopes, init_declrs_scopes, auto_declrs_scopes, declaration_scopes, decl_scopes, block_items_scopes, block_item_scopes, stmt_scopes, some_else_scopes, for_start_scopes}
-use Rattle.first_laws.proofs.Words.{kind_other, other_way}
+use Rattle.first_laws.proofs.Words.{kind_other}
 
 -- a scope with more names, which where that is wanted holds the same one, and gives it no kind
 pub record Grown (kept : Bool) (scope now : HeldScope) : Type 0 where
@@ -140,14 +141,15 @@ base_or false g = g
 -- a name that is declared at once
 declared : {kept : Bool} (m : ℕ) (kind : Kind) (h : HeldScopes) → Grows kept h (declare m kind h)
 declared {kept} m kind h =
-    at_innermost (declare m kind) (λ scope outer t e. by scope outer t (is_name scope.held m) (may_declare scope m kind) refl e)
+    at_innermost (declare m kind)
+    (λ scope outer t e. by scope outer t (is_name scope.held m) (may_declare scope m kind) refl e)
   where
     -- the held name is another one
     kept_kind : (scope : HeldScope) → is_name scope.held m ≡ false → (n : ℕ) → scope.held ≡ Some n →
         kind_in (with_name scope m kind).names n ≡ kind_in scope.names n
     kept_kind scope free n e =
         let apart : nat_eq n m ≡ false = subst (λ (o : Option ℕ). is_name o m ≡ false) e free in
-        kind_other scope m kind n (other_way n m apart)
+        kind_other scope m kind n (ne_turned n m apart)
 
     by : (scope : HeldScope) (outer t : HeldScopes) (b c : Bool) → is_name scope.held m ≡ b →
         (if b then None else if c then Some (with_name scope m kind ∷ outer) else None) ≡ Some t
@@ -396,7 +398,8 @@ mutual
   pub auto_declrs_grows : (it : InitDeclrs) (h : HeldScopes) → Grows false h (auto_declrs_scopes it h)
   auto_declrs_grows no_init_declrs h = still
   auto_declrs_grows (more_init_declrs attrs d asm_label attrs2 init ds) h =
-      after (after (after (base_or (is_base d) (declr_grows (Some Value) d refl h)) (some_init_grows init)) (λ t. released Value t))
+      after (after (after (base_or (is_base d) (declr_grows (Some Value) d refl h)) (some_init_grows init))
+      (λ t. released Value t))
       (auto_declrs_grows ds)
 
   pub declaration_grows : (it : Declaration) (h : HeldScopes) → Grows false h (declaration_scopes it h)

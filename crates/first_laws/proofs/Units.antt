@@ -34,6 +34,7 @@ use Rattle.type_rules.specs.Tokens.{declared_name, is_bare, have_values}
 use Rattle.type_rules.specs.Naming.{Pieced, declr_named, function_by, item_named, items_named, said_words, words_named, Typed, auto_declrs_named, has_untagged, identifiers_named, is_tag_alone, old_declaration_named, old_declarations_named, old_declr_named, old_declrs_named, old_function_by}
 use Rattle.type_rules.specs.Program.{Source, names_of, sources_named}
 use Rattle.name_rules.specs.MeaningLaws.Meanings.{Differ, ThingsAre}
+use Rattle.type_rules.proofs.Named.{listing_name}
 use Rattle.first_laws.specs.Firsts.{FirstsOfScopedHaveSkeletons, HasSkeletonAt, IsScoped, has_name, has_skeleton}
 use Rattle.first_laws.proofs.Words.{AreOf, of_each}
 use Rattle.first_laws.proofs.Growing as grow
@@ -149,35 +150,6 @@ its_bare_name (abs_params d opening ps dots closing) e = absurd cc
 its_bare_name (identifiers d opening names closing) e = absurd cc
 its_bare_name (base_name token) e = absurd cc
 
--- a well-formed declarator with a list of identifiers directly around a name has that name
-listed_name : (d : Declr) → grammar.is_bare_name d ≡ true → (it : Named) × (declared_name d ≡ Some it)
-listed_name (declr_name token name) e = (_, refl)
-listed_name (declr_paren opening attrs d closing) e = listed_name d e
-listed_name (pointer star words d) e = absurd cc
-listed_name (array d opening words size closing) e = absurd cc
-listed_name (params d opening ps dots closing) e = absurd cc
-listed_name (abs_pointer star words d) e = absurd cc
-listed_name (abs_paren opening attrs d closing) e = absurd cc
-listed_name (abs_array d opening words size closing) e = absurd cc
-listed_name (abs_params d opening ps dots closing) e = absurd cc
-listed_name (identifiers d opening names closing) e = absurd cc
-listed_name (base_name token) e = absurd cc
-
--- a well-formed declarator with a list of identifiers declares a name
-listing_name : (all : List Lexeme) (d : Declr) → IsDeclr all d → grammar.lists_identifiers d ≡ true →
-    (it : Named) × (declared_name d ≡ Some it)
-listing_name all (identifiers d opening names closing) formed e = listed_name d formed.1
-listing_name all (declr_name token name) formed e = absurd cc
-listing_name all (declr_paren opening attrs d closing) formed e = listing_name all d formed.1 e
-listing_name all (params d opening ps dots closing) formed e = listing_name all d formed.0 e
-listing_name all (pointer star words d) formed e = listing_name all d formed.1 e
-listing_name all (array d opening words size closing) formed e = listing_name all d formed.0 e
-listing_name all (abs_pointer star words d) formed e = absurd cc
-listing_name all (abs_paren opening attrs d closing) formed e = absurd cc
-listing_name all (abs_array d opening words size closing) formed e = absurd cc
-listing_name all (abs_params d opening ps dots closing) formed e = absurd cc
-listing_name all (base_name token) formed e = absurd cc
-
 -- parts that have scopes behind them
 
 behind_some : (o : Option HeldScopes) (next : HeldScopes → Option HeldScopes) (v : HeldScopes)
@@ -226,12 +198,14 @@ module _ {u : Spelling} {N : ℕ → Type 0} where
   step_from {o = None} f g = record { fits = λ h e. absurd cc }
   step_from {o = Some before} f g = g before refl (f.fits before refl)
 
-module _ (u : Spelling) (N : ℕ → Type 0) (keys : (m n : ℕ) → N m → N n → u.key m ≡ u.key n → m ≡ n) (all : List Lexeme) where
+module _ (u : Spelling) (N : ℕ → Type 0) (keys : (m n : ℕ) → N m → N n → u.key m ≡ u.key n → m ≡ n)
+    (all : List Lexeme) where
   abbrev F : Option ℕ → List Level → Option HeldScope → HeldScopes → Names → List Lexeme → Type 0
   F q qs k h s ts = Fit u N q qs k h s ts
 
   -- a function's declarator, which keeps the scope of its own parameters
-  own_declr_fits : (d : Declr) (above : Bool) (owner : Place) {q : Option ℕ} {qs : List Level} {s : Names} {ts : List Lexeme}
+  own_declr_fits : (d : Declr) (above : Bool) (owner : Place) {q : Option ℕ} {qs : List Level} {s : Names}
+      {ts : List Lexeme}
       (h w : HeldScopes) → is_round_name d above ≡ true → own_scope (own_params d) h ≡ Some w
       → F q qs None h s (declr_text all d ts) →
       Fine u N (holding (declared_name d) q) qs (Some (innermost w)) (declr_scopes (Some Value) d h)
@@ -278,15 +252,15 @@ module _ (u : Spelling) (N : ℕ → Type 0) (keys : (m n : ℕ) → N m → N n
           (declr_scopes (Some Value) (params d opening ps dots closing) h)
           (declr_named u (Some owner) (params d opening ps dots closing) s).names ts
       its name is e =
-          step_from (subst (λ (it : Pieced). Fine u N (holding (declared_name d) q) qs None (declr_scopes (Some Value) d h)
-          it.names (sign_text OpenParen opening (params_text all ps (dots_text all dots (sign_text CloseParen closing ts)))))
+          step_from (subst
+          (λ (it : Pieced). Fine u N (holding (declared_name d) q) qs None (declr_scopes (Some Value) d h) it.names
+          (sign_text OpenParen opening (params_text all ps (dots_text all dots (sign_text CloseParen closing ts)))))
           (bare_named u d name (Some owner) s is) (declr_fits u N keys all (Some Value) d refl h f))
           (λ v now g. kept (params_scopes ps (held.enter v)) (own_where (is_bare d) (Some owner))
           (ap (λ (b : Bool). own_where b (Some owner)) (is_bare_name d name is))
           (sym (ap (λ (o : Option HeldScopes). behind o (λ t. params_scopes ps (held.enter t)))
-          (sym (bare_scopes d name h is) ∙ now)) ∙ e)
-          (also (params_fit u N keys all ps 0 (own_where (is_bare d) (Some owner)) _ (entered (eat g)))
-          (λ h g. eat (dots_past all dots g))))
+          (sym (bare_scopes d name h is) ∙ now)) ∙ e) (also (params_fit u N keys all ps 0
+          (own_where (is_bare d) (Some owner)) _ (entered (eat g))) (λ h g. eat (dots_past all dots g))))
 
       by : (o : Option ℕ) → bare_name d ≡ o → own_scope (or_those_of o ps (own_params d)) h ≡ Some w →
           (own_scope (own_params d) h ≡ Some w → Fine u N (holding (declared_name d) q) qs (Some (innermost w))
@@ -323,15 +297,16 @@ module _ (u : Spelling) (N : ℕ → Type 0) (keys : (m n : ℕ) → N m → N n
           F None [] None t behind_words (declr_text all d (attrs_text all attrs (sign_text OpenBrace opening
           (block_items_text all items (sign_text CloseBrace closing ts))))) →
           Fine u N None [] None (behind (declr_scopes (Some Value) d t) (λ v. behind o
-          (λ w. behind (block_items_scopes items (reopen (innermost w) (release Value v))) (λ inner. Some (held.leave inner)))))
+          (λ w. behind (block_items_scopes items (reopen (innermost w) (release Value v)))
+          (λ inner. Some (held.leave inner)))))
           (function_by u (Some it) ws d items s) ts
       owned t None is g = none_fine (none_behind (declr_scopes (Some Value) d t) (λ v. None) (λ v. refl))
       owned t (Some w) is g =
           step (own_declr_fits d false owner t w round is g) (λ v g.
           let begun : F (Some it.name) [] (Some (innermost w)) v _ _ =
           subst (λ (o : Option Named). F (holding o None) [] (Some (innermost w)) v
-          (declr_named u (Some owner) d behind_words).names (block_items_text all items (sign_text CloseBrace closing ts)))
-          e (eat (attrs_past all attrs g)) in
+          (declr_named u (Some owner) d behind_words).names
+          (block_items_text all items (sign_text CloseBrace closing ts))) e (eat (attrs_past all attrs g)) in
           also (own (ends (block_items_fit u N keys all items _ (body_entered_fits u N keys _ _ _ _
           (thing_fits u N keys true it.name Value (said_words ws) _ _ (sized_fits u N keys _ _ begun))))))
           (λ h g. alike u N keys refl refl refl refl g))
@@ -346,14 +321,16 @@ module _ (u : Spelling) (N : ℕ → Type 0) (keys : (m n : ℕ) → N m → N n
       named_fits ws d attrs opening closing items it h round e f
   function_fits ws d attrs opening closing items None h round e f =
       none_fine (none_behind (spec_words_scopes ws h) _ (λ t. none_behind (declr_scopes (Some Value) d t) _ (λ v.
-      ap (λ (o : Option HeldScopes). behind o (λ w. behind (block_items_scopes items (reopen (innermost w) (release Value v)))
+      ap (λ (o : Option HeldScopes).
+      behind o (λ w. behind (block_items_scopes items (reopen (innermost w) (release Value v)))
       (λ inner. Some (held.leave inner)))) (ap (λ (it : Option OwnParams). own_scope it t) (none_own d e)))))
 
   -- functions with lists of identifiers
 
   -- declarations behind a list, which declare its parameters
 
-  old_one_fits : (lets : Bool) (kind : Kind) (own : Option Place) (words : List Keyword) (untagged : Option ℕ) (t : CType)
+  old_one_fits : (lets : Bool) (kind : Kind) (own : Option Place) (words : List Keyword)
+      (untagged : Option ℕ) (t : CType)
       (it : Option Named) {qs : List Level} {k : Option HeldScope} {h : HeldScopes} {ts : List Lexeme} (olds : Olds) →
       F (holding it None) qs k h olds.names ts → (b : Bool) →
       F (held_behind lets (holding it None)) qs k (scopes_behind lets kind h)
@@ -362,7 +339,8 @@ module _ (u : Spelling) (N : ℕ → Type 0) (keys : (m n : ℕ) → N m → N n
   old_one_fits lets kind own words untagged t it olds f true = some_fits u N keys lets kind untagged it words t f
   old_one_fits lets kind own words untagged t it olds f false = old_fits u N keys lets kind own it (decayed t) olds f
 
-  other_old_declrs_fit : (kind : Kind) (ds : InitDeclrs) (own : Option Place) (words : List Keyword) (is_untagged : Bool)
+  other_old_declrs_fit : (kind : Kind) (ds : InitDeclrs) (own : Option Place) (words : List Keyword)
+      (is_untagged : Bool)
       (t : CType) → is_same Constant kind ≡ false → (it : Olds)
       {qs : List Level} {k : Option HeldScope} {ts : List Lexeme} (h : HeldScopes) →
       F None qs k h it.names (other_init_declrs_text all ds ts) →
@@ -376,7 +354,8 @@ module _ (u : Spelling) (N : ℕ → Type 0) (keys : (m n : ℕ) → N m → N n
       (attrs_past all attrs2 (label_past all asm_label g)) (has_word keywords.Typedef words))))
       (λ h g. other_old_declrs_fit kind ds own words false t want _ h g)
 
-  old_declrs_fit : (kind : Kind) (ds : InitDeclrs) (own : Option Place) (words : List Keyword) (is_untagged : Bool) (t : CType) →
+  old_declrs_fit : (kind : Kind) (ds : InitDeclrs) (own : Option Place) (words : List Keyword)
+      (is_untagged : Bool) (t : CType) →
       is_same Constant kind ≡ false → (it : Olds)
       {qs : List Level} {k : Option HeldScope} {ts : List Lexeme} (h : HeldScopes) →
       F None qs k h it.names (init_declrs_text all ds ts) →
@@ -392,26 +371,30 @@ module _ (u : Spelling) (N : ℕ → Type 0) (keys : (m n : ℕ) → N m → N n
 
   -- so, where the grammar alone waits for initialisers, as in no well-formed unit
 
-  other_late_old_fit : (ds : InitDeclrs) (own : Option Place) (words : List Keyword) (is_untagged : Bool) (t : CType) (it : Olds)
+  other_late_old_fit : (ds : InitDeclrs) (own : Option Place) (words : List Keyword) (is_untagged : Bool)
+      (t : CType) (it : Olds)
       {qs : List Level} {k : Option HeldScope} {ts : List Lexeme} (h : HeldScopes) →
       F None qs k h it.names (other_init_declrs_text all ds ts) →
       Fine u N None qs k (auto_declrs_scopes ds h) (old_declrs_named u own words is_untagged t ds it).names ts
   other_late_old_fit no_init_declrs own words is_untagged t it h f = done f
   other_late_old_fit (more_init_declrs attrs d asm_label attrs2 init ds) own words is_untagged t it h f =
-      step (step (step (base_or u N keys all d h (attrs_past all attrs (eat f)) (declr_fits u N keys all (Some Value) d refl h (attrs_past all attrs (eat f))))
+      step (step (step (base_or u N keys all d h (attrs_past all attrs (eat f))
+      (declr_fits u N keys all (Some Value) d refl h (attrs_past all attrs (eat f))))
       (λ h g. some_init_fits u N keys all init h (old_one_fits false Value own words (untagged_number is_untagged t)
       (applied (declr_named u None d it.names).pieces t) (declared_name d)
       (record it { names = (declr_named u None d it.names).names })
       (attrs_past all attrs2 (label_past all asm_label g)) (has_word keywords.Typedef words))))
       (λ h g. done (dropped u N keys Value g))) (λ h g. other_late_old_fit ds own words false t _ h g)
 
-  late_old_fit : (ds : InitDeclrs) (own : Option Place) (words : List Keyword) (is_untagged : Bool) (t : CType) (it : Olds)
+  late_old_fit : (ds : InitDeclrs) (own : Option Place) (words : List Keyword) (is_untagged : Bool)
+      (t : CType) (it : Olds)
       {qs : List Level} {k : Option HeldScope} {ts : List Lexeme} (h : HeldScopes) →
       F None qs k h it.names (init_declrs_text all ds ts) →
       Fine u N None qs k (auto_declrs_scopes ds h) (old_declrs_named u own words is_untagged t ds it).names ts
   late_old_fit no_init_declrs own words is_untagged t it h f = done f
   late_old_fit (more_init_declrs attrs d asm_label attrs2 init ds) own words is_untagged t it h f =
-      step (step (step (base_or u N keys all d h (attrs_past all attrs f) (declr_fits u N keys all (Some Value) d refl h (attrs_past all attrs f)))
+      step (step (step (base_or u N keys all d h (attrs_past all attrs f)
+      (declr_fits u N keys all (Some Value) d refl h (attrs_past all attrs f)))
       (λ h g. some_init_fits u N keys all init h (old_one_fits false Value own words (untagged_number is_untagged t)
       (applied (declr_named u None d it.names).pieces t) (declared_name d)
       (record it { names = (declr_named u None d it.names).names })
@@ -423,7 +406,8 @@ module _ (u : Spelling) (N : ℕ → Type 0) (keys : (m n : ℕ) → N m → N n
       F None qs k h it.names (declaration_text all d ts) →
       Fine u N None qs k (declaration_scopes d h) (old_declaration_named u own d it).names ts
   old_declaration_fits (declaration exts ws ds semi) own it {qs} {k} {ts} h f =
-      step (words_fit u N keys all ws _ _ _ h (extensions_past exts f)) (λ h g. ends (by (has_auto ws) (have_values ds) h g))
+      step (words_fit u N keys all ws _ _ _ h (extensions_past exts f))
+      (λ h g. ends (by (has_auto ws) (have_values ds) h g))
     where
       found : Typed
       found = words_named u (is_tag_alone ws ds) ws (base []) [] it.names
@@ -432,14 +416,17 @@ module _ (u : Spelling) (N : ℕ → Type 0) (keys : (m n : ℕ) → N m → N n
           → F None qs k h found.names (init_declrs_text all ds (sign_text Semicolon semi ts)) →
           Fine u N None qs k ((if b then auto_declrs_scopes ds else init_declrs_scopes (declared_kind ws) ds) h)
           (if b && c
-          then record it { names = auto_declrs_named u (said_words ws) (has_untagged ws) semi found.type ds found.names }
-          else old_declrs_named u own (said_words ws) (has_untagged ws) found.type ds (record it { names = found.names })).names
+          then record it
+          { names = auto_declrs_named u (said_words ws) (has_untagged ws) semi found.type ds found.names }
+          else old_declrs_named u own (said_words ws) (has_untagged ws) found.type ds
+          (record it { names = found.names })).names
           (sign_text Semicolon semi ts)
       by true true h g = auto_declrs_fit u N keys all ds (said_words ws) (has_untagged ws) semi found.type h g
       by true false h g =
           late_old_fit ds own (said_words ws) (has_untagged ws) found.type (record it { names = found.names }) h g
       by false c h g =
-          old_declrs_fit (declared_kind ws) ds own (said_words ws) (has_untagged ws) found.type (no_enumerator (has_typedef_word (storage_words ws)))
+          old_declrs_fit (declared_kind ws) ds own (said_words ws) (has_untagged ws) found.type
+          (no_enumerator (has_typedef_word (storage_words ws)))
           (record it { names = found.names }) h g
 
   old_declarations_fit : (ds : List Declaration) (own : Option Place) (it : Olds)
@@ -451,8 +438,7 @@ module _ (u : Spelling) (N : ℕ → Type 0) (keys : (m n : ℕ) → N m → N n
       step (old_declaration_fits d own it h f) (λ h g. old_declarations_fit ds own _ h g)
 
   -- A function's declarator with a list of identifiers, whose parameters are declared behind the whole declarator: they
-  -- stand round
-  -- the scopes there. What stands behind the declarations is known too.
+  -- stand round the scopes there. What stands behind the declarations is known too.
 
   -- names behind the declarations of a list, in the parameters' scope
   abbrev ended : List Declaration → Place → List Identifier → Names → Olds
@@ -464,10 +450,13 @@ module _ (u : Spelling) (N : ℕ → Type 0) (keys : (m n : ℕ) → N m → N n
       keep (Some owner) (old_faults u (ended ds owner names inner).list (ended ds owner names inner).names)
 
   -- the list itself, directly around the name
-  listed_fits : (vs : List Lexeme) (opening closing : ℕ) (names : List Identifier) (ds : List Declaration) (owner : Place)
+  listed_fits : (vs : List Lexeme) (opening closing : ℕ) (names : List Identifier) (ds : List Declaration)
+      (owner : Place)
       {q : Option ℕ} {qs : List Level} {inner : Names} {ts : List Lexeme} (scope : HeldScope) (outer t w : HeldScopes) →
-      Grew true (scope ∷ outer) t → declarations_scopes ds (held.enter t) ≡ Some w → AreOf N (declarations_text all ds vs) →
-      F q qs None (scope ∷ outer) inner (sign_text OpenParen opening (names_text names (sign_text CloseParen closing ts))) →
+      Grew true (scope ∷ outer) t → declarations_scopes ds (held.enter t) ≡ Some w
+      → AreOf N (declarations_text all ds vs) →
+      F q qs None (scope ∷ outer) inner
+      (sign_text OpenParen opening (names_text names (sign_text CloseParen closing ts))) →
       F q qs (Some (innermost w)) (scope ∷ outer) (kept_after ds owner names inner) ts × AreOf N vs
   listed_fits vs opening closing names ds owner {q} {qs} {inner} {ts} scope outer t w grew e past f = (
     beside_kept u N keys owner scope outer t w grew left (eat (names_past names (eat f))).names
@@ -484,14 +473,17 @@ module _ (u : Spelling) (N : ℕ → Type 0) (keys : (m n : ℕ) → N m → N n
       left : held.leave w ≡ t
       left = ap held.leave ((declarations_grow ds (held.enter t)).grows w e (new_scope (is_wide t)) t refl).are
 
-  old_declr_fits : (vs : List Lexeme) (d : Declr) (ds : List Declaration) (owner : Place) {q : Option ℕ} {qs : List Level}
+  old_declr_fits : (vs : List Lexeme) (d : Declr) (ds : List Declaration) (owner : Place) {q : Option ℕ}
+      {qs : List Level}
       {s : Names} {ts : List Lexeme} (h v t w : HeldScopes) → IsDeclr all d → grammar.lists_identifiers d ≡ true →
       declr_scopes (Some Value) d h ≡ Some v → Grew true v t → declarations_scopes ds (held.enter t) ≡ Some w →
       AreOf N (declarations_text all ds vs) → F q qs None h s (declr_text all d ts) →
-      F (holding (declared_name d) q) qs (Some (innermost w)) v (old_declr_named u (Some owner) ds d s).names ts × AreOf N vs
+      F (holding (declared_name d) q) qs (Some (innermost w)) v
+      (old_declr_named u (Some owner) ds d s).names ts × AreOf N vs
   old_declr_fits vs (declr_name token name) ds owner h v t w formed lists now grew e past f = absurd cc
   old_declr_fits vs (declr_paren opening attrs d closing) ds owner h v t w formed lists now grew e past f =
-      let it = old_declr_fits vs d ds owner h v t w formed.1 lists now grew e past (attrs_past all attrs (eat f)) in (eat it.0, it.1)
+      let it = old_declr_fits vs d ds owner h v t w formed.1 lists now grew e past (attrs_past all attrs (eat f)) in
+      (eat it.0, it.1)
   old_declr_fits vs (pointer star words d) ds owner h v t w formed lists now grew e past f =
       old_declr_fits vs d ds owner h v t w formed.1 lists now grew e past (pointer_words_past all words (eat f))
   old_declr_fits vs (array d opening words size closing) ds owner h v t w formed lists now grew e past f =
@@ -509,16 +501,17 @@ module _ (u : Spelling) (N : ℕ → Type 0) (keys : (m n : ℕ) → N m → N n
             (λ h g. eat (dots_past all dots g)))).fits v parts.2,
         it.1,
       )
-  old_declr_fits vs (identifiers d opening names closing) ds owner {q} {qs} {s} {ts} h v t w formed lists now grew e past f =
+  old_declr_fits vs
+      (identifiers d opening names closing) ds owner {q} {qs} {s} {ts} h v t w formed lists now grew e past f =
       let name = its_bare_name d formed.1 in
-      let parts = behind_some (declr_scopes (Some Value) d h) (λ t. behind (where_true (is_wide t) t) (identifiers_scopes names))
-      v now in
+      let parts = behind_some (declr_scopes (Some Value) d h)
+      (λ t. behind (where_true (is_wide t) t) (identifiers_scopes names)) v now in
       let rest = behind_some (where_true (is_wide parts.0) parts.0) (identifiers_scopes names) v parts.2 in
       let same : parts.0 ≡ v =
       same_where (is_wide parts.0) parts.0 rest.0 rest.1 ∙ same_identified names rest.0 v rest.2 in
       let cons = held_cons name.0 h parts.0 (sym (bare_scopes d name.0 h name.1) ∙ parts.1) in
-      let it = listed_fits vs opening closing names ds owner {inner = (declr_named u None d s).names} {ts = ts} cons.0 (held.leave h)
-      t w (subst (λ (now : HeldScopes). Grew true now t) (sym same ∙ cons.1) grew) e past
+      let it = listed_fits vs opening closing names ds owner {inner = (declr_named u None d s).names} {ts = ts} cons.0
+      (held.leave h) t w (subst (λ (now : HeldScopes). Grew true now t) (sym same ∙ cons.1) grew) e past
       (subst (λ (now : HeldScopes). F (holding (declared_name d) q) qs None now (declr_named u None d s).names
       (sign_text OpenParen opening (names_text names (sign_text CloseParen closing ts)))) cons.1
       ((declr_fits u N keys all (Some Value) d refl h f).fits parts.0 parts.1)) in (
@@ -540,7 +533,8 @@ module _ (u : Spelling) (N : ℕ → Type 0) (keys : (m n : ℕ) → N m → N n
       (sign_text OpenBrace opening (block_items_text all items (sign_text CloseBrace closing ts))))))) →
       Fine u N None [] None (old_function_scopes ws d ds items h) (old_function_by u (Some it) ws d ds items s) ts
   old_named_fits ws d attrs ds opening closing items it {s} {ts} h formed lists e f =
-      step (words_fit u N keys all ws false _ _ h f) (λ before g. step_from (declr_fits u N keys all (Some Value) d refl before g)
+      step (words_fit u N keys all ws false _ _ h f) (λ before g.
+      step_from (declr_fits u N keys all (Some Value) d refl before g)
       (λ v now behind_it. declared before v now g (attrs_past all attrs behind_it).names
       (declarations_scopes ds (held.enter v)) refl))
     where
@@ -596,13 +590,15 @@ module _ (u : Spelling) (N : ℕ → Type 0) (keys : (m n : ℕ) → N m → N n
   item_fits (function_item exts ws d attrs opening items closing) h formed f =
       function_fits ws d attrs opening closing items (declared_name d) h formed.5 refl (extensions_past exts f)
   item_fits (old_function_item exts ws d attrs ds opening items closing) h formed f =
-      old_function_fits ws d attrs ds opening closing items (declared_name d) h formed.4 formed.5 refl (extensions_past exts f)
+      old_function_fits ws d attrs ds opening closing items (declared_name d) h formed.4 formed.5 refl
+      (extensions_past exts f)
   item_fits (decl_item d) h formed f = decl_fits u N keys all d h f
   item_fits (asm_item keyword group semi) h formed f = done (eat (group_past all group (eat f)))
   item_fits (semi_item semi) h formed f = done (eat f)
 
   items_fit : (items : List Item) {s : Names} {ts : List Lexeme} (h : HeldScopes) → All (IsItem all) items →
-      F None [] None h s (items_text all items ts) → Fine u N None [] None (items_scopes items h) (items_named u items s) ts
+      F None [] None h s (items_text all items ts)
+      → Fine u N None [] None (items_scopes items h) (items_named u items s) ts
   items_fit [] h formed f = done f
   items_fit (item ∷ items) h formed f =
       step (item_fits item h (All-head (IsItem all) item items formed) f)
@@ -642,7 +638,8 @@ unit_known it s scoped old differ =
         (items_named it.spelling it.items (unit_begun it.spelling.unit s))
         (record { kind = kinds.End; at = scoped.formed.tokens.last } ∷ [])
     fine =
-        items_fit it.spelling N scoped.names scoped.all it.items (file_scope it.spelling.wide) scoped.formed.rules.parts begun
+        items_fit it.spelling N scoped.names scoped.all it.items
+        (file_scope it.spelling.wide) scoped.formed.rules.parts begun
 
 -- where what is known before sources fits, what is known behind all of them does, if declarations are at different
 -- places

@@ -165,7 +165,8 @@ module _ {u : Spelling} {N : ℕ → Type 0} where
   identifiers_tested (it ∷ names) h f =
       step (tested (not (held.names_type h it.name)) f) (λ h g. identifiers_tested names h g)
 
-module _ (u : Spelling) (N : ℕ → Type 0) (keys : (m n : ℕ) → N m → N n → u.key m ≡ u.key n → m ≡ n) (all : List Lexeme) where
+module _ (u : Spelling) (N : ℕ → Type 0) (keys : (m n : ℕ) → N m → N n → u.key m ≡ u.key n → m ≡ n)
+    (all : List Lexeme) where
   abbrev F : Option ℕ → List Level → Option HeldScope → HeldScopes → Names → List Lexeme → Type 0
   F q qs k h s ts = Fit u N q qs k h s ts
 
@@ -203,7 +204,8 @@ module _ (u : Spelling) (N : ℕ → Type 0) (keys : (m n : ℕ) → N m → N n
   unnamed_by_fits (align attr) n t f = f
   unnamed_by_fits (auto_word token) n t f = f
 
-  unnamed_among_fits : (ws : SpecWords) (n : ℕ) (t : CType) {q : Option ℕ} {qs : List Level} {k : Option HeldScope} {h : HeldScopes}
+  unnamed_among_fits : (ws : SpecWords) (n : ℕ) (t : CType) {q : Option ℕ} {qs : List Level} {k : Option HeldScope}
+      {h : HeldScopes}
       {s : Names} {ts : List Lexeme} → F q qs k h s ts → F q qs k h (unnamed_among u ws n t s) ts
   unnamed_among_fits no_words n t f = f
   unnamed_among_fits (more_words word ws) n t f = unnamed_among_fits ws n t (unnamed_by_fits word n t f)
@@ -230,8 +232,10 @@ module _ (u : Spelling) (N : ℕ → Type 0) (keys : (m n : ℕ) → N m → N n
   -- what stands in the place of the name behind `__auto_type`: a base word declares nothing
   pub base_or : (d : Declr) {qs : List Level} {k : Option HeldScope} {s : Names} {ts : List Lexeme} (h : HeldScopes)
       → F None qs k h s (declr_text all d ts) →
-      Fine u N (held_then (Some Value) (declared_name d) None) qs k (declr_scopes (Some Value) d h) (declr_named u None d s).names ts →
-      Fine u N (held_then (Some Value) (declared_name d) None) qs k (if is_base d then Some h else declr_scopes (Some Value) d h) (declr_named u None d s).names ts
+      Fine u N (held_then (Some Value) (declared_name d) None) qs k (declr_scopes (Some Value) d h)
+      (declr_named u None d s).names ts →
+      Fine u N (held_then (Some Value) (declared_name d) None) qs k
+      (if is_base d then Some h else declr_scopes (Some Value) d h) (declr_named u None d s).names ts
   base_or (base_name token) h f g = done (eat f)
   base_or (declr_name token name) h f g = g
   base_or (array d opening words size closing) h f g = g
@@ -269,7 +273,8 @@ module _ (u : Spelling) (N : ℕ → Type 0) (keys : (m n : ℕ) → N m → N n
     expr_fits (compound opening ws d closing list) c h f =
         step (step (words_fit ws false _ _ h (eat f)) (some_declr_fits None d tt))
         (λ h g. init_list_fits list h (type_fits u N keys _ _ (eat g)))
-    expr_fits (name_use token name) c h f = tested (not (held.names_type h name)) (used_fits u N keys c token name (eat f))
+    expr_fits (name_use token name) c h f =
+        tested (not (held.names_type h name)) (used_fits u N keys c token name (eat f))
     expr_fits (number_use token) c h f = done (eat f)
     expr_fits (char_use token) c h f = done (eat f)
     expr_fits (text_use texts) c h f = done (texts_past texts f)
@@ -374,7 +379,8 @@ module _ (u : Spelling) (N : ℕ → Type 0) (keys : (m n : ℕ) → N m → N n
     word_fits (align attr) alone t h f = done (group_past all attr.group (eat f))
     word_fits (auto_word token) alone t h f = done (eat f)
 
-    pub body_of_fits : (body : SomeBody) (alone : Bool) (kind : TagKind) (keyword : ℕ) (tag : Option Identifier) (t : CType)
+    pub body_of_fits : (body : SomeBody) (alone : Bool) (kind : TagKind) (keyword : ℕ)
+        (tag : Option Identifier) (t : CType)
         {q : Option ℕ} {qs : List Level} {k : Option HeldScope} {s : Names} {ts : List Lexeme} (h : HeldScopes) →
         F q qs k h s (some_body_text all body ts) →
         Fine u N q qs k (some_body_scopes body h) ((struct_named u alone kind keyword tag body t s).names) ts
@@ -387,7 +393,8 @@ module _ (u : Spelling) (N : ℕ → Type 0) (keys : (m n : ℕ) → N m → N n
         F q qs k h s (struct_items_text all items ts) →
         Fine u N q qs k (struct_items_scopes items h) (struct_items_named u n items s) ts
     struct_items_fit no_struct_items n h f = done f
-    struct_items_fit (more_struct_items item items) n h f = step (struct_item_fits item n h f) (struct_items_fit items n)
+    struct_items_fit (more_struct_items item items) n h f =
+        step (struct_item_fits item n h f) (struct_items_fit items n)
 
     pub struct_item_fits : (item : StructItem) (n : ℕ)
         {q : Option ℕ} {qs : List Level} {k : Option HeldScope} {s : Names} {ts : List Lexeme} (h : HeldScopes) →
@@ -421,7 +428,8 @@ module _ (u : Spelling) (N : ℕ → Type 0) (keys : (m n : ℕ) → N m → N n
         Fine u N q qs k (mem_declr_scopes d h) (mem_declr_named u n t d s) ts
     mem_declr_fits (named d width attrs) n t h f =
         also (step (declr_fits None d tt h f)
-        (λ h g. some_value_fits Colon width h (member_fits u N keys (declared_name d) n _ g))) (λ h g. attrs_past all attrs g)
+        (λ h g. some_value_fits Colon width h (member_fits u N keys (declared_name d) n _ g)))
+        (λ h g. attrs_past all attrs g)
     mem_declr_fits (unnamed colon e attrs) n t h f =
         also (expr_fits e false h (eat f)) (λ h g. attrs_past all attrs g)
 
@@ -439,7 +447,8 @@ module _ (u : Spelling) (N : ℕ → Type 0) (keys : (m n : ℕ) → N m → N n
     enum_fits (enum_of keyword attrs tag no_enum_body) h f =
         done (tag_fits false tags.Enum tag (base []) (tag_past tag (attrs_past all attrs (eat f))))
     enum_fits (enum_of keyword attrs tag (some_enum_body opening es last closing)) h f =
-        also (enumerators_fit es h (begun_fits tags.Enum keyword tag (eat (tag_past tag (attrs_past all attrs (eat f))))))
+        also
+        (enumerators_fit es h (begun_fits tags.Enum keyword tag (eat (tag_past tag (attrs_past all attrs (eat f))))))
         (λ h g. eat (some_sign_past Comma last g))
 
     pub enumerators_fit : (es : Enumerators)
@@ -482,7 +491,8 @@ module _ (u : Spelling) (N : ℕ → Type 0) (keys : (m n : ℕ) → N m → N n
     declr_fits kind (abs_paren opening attrs d closing) want h f =
         ends (declr_fits kind d want h (attrs_past all attrs (eat f)))
     declr_fits kind (abs_array d opening words size closing) want h f =
-        step (some_declr_fits kind d want h f) (λ h g. ends (some_size_fits size h (array_words_past all words (eat g))))
+        step (some_declr_fits kind d want h f)
+        (λ h g. ends (some_size_fits size h (array_words_past all words (eat g))))
     declr_fits kind (abs_params d opening ps dots closing) want h f =
         step (some_declr_fits kind d want h f)
         (λ h g. own (also (params_fit ps 0 None _ (entered (eat g))) (λ h g. eat (dots_past all dots g))))
@@ -495,7 +505,8 @@ module _ (u : Spelling) (N : ℕ → Type 0) (keys : (m n : ℕ) → N m → N n
     pub some_declr_fits : (kind : Option Kind) (d : SomeDeclr) → IsWanted kind →
         {q : Option ℕ} {qs : List Level} {k : Option HeldScope} {s : Names} {ts : List Lexeme} (h : HeldScopes) →
         F q qs k h s (some_declr_text all d ts) →
-        Fine u N (held_then kind (some_declared_name d) q) qs k (some_declr_scopes kind d h) ((some_declr_named u d s).names) ts
+        Fine u N (held_then kind (some_declared_name d) q) qs k (some_declr_scopes kind d h)
+        ((some_declr_named u d s).names) ts
     some_declr_fits None no_declr want h f = done f
     some_declr_fits (Some kind) no_declr want h f = done f
     some_declr_fits kind (some_declr d) want h f = declr_fits kind d want h f
@@ -554,7 +565,8 @@ module _ (u : Spelling) (N : ℕ → Type 0) (keys : (m n : ℕ) → N m → N n
         Fine u N q qs k (init_items_scopes items h) (init_items_named u items s) ts
     init_items_fit no_init_items h f = done f
     init_items_fit (more_init_items ds equal init items) h f =
-        step (step (desigs_fit ds h f) (λ h g. init_fits init h (some_sign_past Equal equal g))) (other_init_items_fit items)
+        step (step (desigs_fit ds h f) (λ h g. init_fits init h (some_sign_past Equal equal g)))
+        (other_init_items_fit items)
 
     pub other_init_items_fit : (items : InitItems)
         {q : Option ℕ} {qs : List Level} {k : Option HeldScope} {s : Names} {ts : List Lexeme} (h : HeldScopes) →
@@ -562,7 +574,8 @@ module _ (u : Spelling) (N : ℕ → Type 0) (keys : (m n : ℕ) → N m → N n
         Fine u N q qs k (init_items_scopes items h) (init_items_named u items s) ts
     other_init_items_fit no_init_items h f = done f
     other_init_items_fit (more_init_items ds equal init items) h f =
-        step (step (desigs_fit ds h (eat f)) (λ h g. init_fits init h (some_sign_past Equal equal g))) (other_init_items_fit items)
+        step (step (desigs_fit ds h (eat f)) (λ h g. init_fits init h (some_sign_past Equal equal g)))
+        (other_init_items_fit items)
 
     pub desigs_fit : (ds : Desigs)
         {q : Option ℕ} {qs : List Level} {k : Option HeldScope} {s : Names} {ts : List Lexeme} (h : HeldScopes) →
@@ -578,7 +591,8 @@ module _ (u : Spelling) (N : ℕ → Type 0) (keys : (m n : ℕ) → N m → N n
     desig_fits (member_desig token name) h f = done (eat (eat f))
     desig_fits (index_desig opening e closing) h f = ends (expr_fits e false h (eat f))
     desig_fits (range_desig opening e dots e2 closing) h f =
-        step (step (expr_fits e false h (eat f)) (λ h g. tested (is_wide h) (eat g))) (λ h g. ends (expr_fits e2 false h g))
+        step (step (expr_fits e false h (eat f)) (λ h g. tested (is_wide h) (eat g)))
+        (λ h g. ends (expr_fits e2 false h g))
     desig_fits (old_desig name colon) h f = tested (is_wide h) (eat (eat f))
 
     pub some_init_fits : (init : SomeInit)
@@ -596,10 +610,12 @@ module _ (u : Spelling) (N : ℕ → Type 0) (keys : (m n : ℕ) → N m → N n
     init_declrs_fit kind no_init_declrs words is_untagged t want h f = done f
     init_declrs_fit kind (more_init_declrs attrs d asm_label attrs2 init ds) words is_untagged t want h f =
         step (step (declr_fits (Some kind) d want h (attrs_past all attrs f)) (λ h g. some_init_fits init _
-        (some_fits u N keys true kind _ (declared_name d) words _ (attrs_past all attrs2 (label_past all asm_label g)))))
+        (some_fits u N keys true kind _ (declared_name d) words _
+        (attrs_past all attrs2 (label_past all asm_label g)))))
         (other_init_declrs_fit kind ds words false t want)
 
-    pub other_init_declrs_fit : (kind : Kind) (ds : InitDeclrs) (words : List Keyword) (is_untagged : Bool) (t : CType) →
+    pub other_init_declrs_fit : (kind : Kind) (ds : InitDeclrs) (words : List Keyword)
+        (is_untagged : Bool) (t : CType) →
         is_same Constant kind ≡ false →
         {qs : List Level} {k : Option HeldScope} {s : Names} {ts : List Lexeme} (h : HeldScopes) →
         F None qs k h s (other_init_declrs_text all ds ts) →
@@ -607,12 +623,14 @@ module _ (u : Spelling) (N : ℕ → Type 0) (keys : (m n : ℕ) → N m → N n
     other_init_declrs_fit kind no_init_declrs words is_untagged t want h f = done f
     other_init_declrs_fit kind (more_init_declrs attrs d asm_label attrs2 init ds) words is_untagged t want h f =
         step (step (declr_fits (Some kind) d want h (attrs_past all attrs (eat f))) (λ h g. some_init_fits init _
-        (some_fits u N keys true kind _ (declared_name d) words _ (attrs_past all attrs2 (label_past all asm_label g)))))
+        (some_fits u N keys true kind _ (declared_name d) words _
+        (attrs_past all attrs2 (label_past all asm_label g)))))
         (other_init_declrs_fit kind ds words false t want)
 
     -- a name of the type of its initialiser; lists of initialisers, which names are not gone through in, declare
     -- nothing of it
-    pub auto_fits : (init : SomeInit) (it : Option Named) (words : List Keyword) (is_untagged : Bool) (semi : ℕ) (t : CType)
+    pub auto_fits : (init : SomeInit) (it : Option Named) (words : List Keyword) (is_untagged : Bool)
+        (semi : ℕ) (t : CType)
         {qs : List Level} {k : Option HeldScope} {s : Names} {ts : List Lexeme} (h : HeldScopes) →
         F (holding it None) qs k h s (some_init_text all init ts) →
         Fine u N None qs k (behind (some_init_scopes init h) (λ t. Some (release Value t)))
@@ -630,8 +648,10 @@ module _ (u : Spelling) (N : ℕ → Type 0) (keys : (m n : ℕ) → N m → N n
         Fine u N None qs k (auto_declrs_scopes ds h) (auto_declrs_named u words is_untagged semi t ds s) ts
     auto_declrs_fit no_init_declrs words is_untagged semi t h f = done f
     auto_declrs_fit (more_init_declrs attrs d asm_label attrs2 init ds) words is_untagged semi t h f =
-        step (step_two (some_init_scopes init) (λ t. Some (release Value t)) (base_or d h (attrs_past all attrs f) (declr_fits (Some Value) d refl h (attrs_past all attrs f)))
-        (λ h g. auto_fits init (declared_name d) words is_untagged semi t h (attrs_past all attrs2 (label_past all asm_label g))))
+        step (step_two (some_init_scopes init) (λ t. Some (release Value t))
+        (base_or d h (attrs_past all attrs f) (declr_fits (Some Value) d refl h (attrs_past all attrs f)))
+        (λ h g. auto_fits init (declared_name d) words is_untagged semi t h
+        (attrs_past all attrs2 (label_past all asm_label g))))
         (other_auto_declrs_fit ds words false semi t)
 
     pub other_auto_declrs_fit : (ds : InitDeclrs) (words : List Keyword) (is_untagged : Bool) (semi : ℕ) (t : CType)
@@ -640,8 +660,10 @@ module _ (u : Spelling) (N : ℕ → Type 0) (keys : (m n : ℕ) → N m → N n
         Fine u N None qs k (auto_declrs_scopes ds h) (auto_declrs_named u words is_untagged semi t ds s) ts
     other_auto_declrs_fit no_init_declrs words is_untagged semi t h f = done f
     other_auto_declrs_fit (more_init_declrs attrs d asm_label attrs2 init ds) words is_untagged semi t h f =
-        step (step_two (some_init_scopes init) (λ t. Some (release Value t)) (base_or d h (attrs_past all attrs (eat f)) (declr_fits (Some Value) d refl h (attrs_past all attrs (eat f))))
-        (λ h g. auto_fits init (declared_name d) words is_untagged semi t h (attrs_past all attrs2 (label_past all asm_label g))))
+        step (step_two (some_init_scopes init) (λ t. Some (release Value t))
+        (base_or d h (attrs_past all attrs (eat f)) (declr_fits (Some Value) d refl h (attrs_past all attrs (eat f))))
+        (λ h g. auto_fits init (declared_name d) words is_untagged semi t h
+        (attrs_past all attrs2 (label_past all asm_label g))))
         (other_auto_declrs_fit ds words false semi t)
 
     -- names that wait for their initialisers in the grammar alone, as in no well-formed unit
@@ -651,8 +673,10 @@ module _ (u : Spelling) (N : ℕ → Type 0) (keys : (m n : ℕ) → N m → N n
         Fine u N None qs k (auto_declrs_scopes ds h) (init_declrs_named u words is_untagged t ds s) ts
     late_declrs_fit no_init_declrs words is_untagged t h f = done f
     late_declrs_fit (more_init_declrs attrs d asm_label attrs2 init ds) words is_untagged t h f =
-        step (step (step (base_or d h (attrs_past all attrs f) (declr_fits (Some Value) d refl h (attrs_past all attrs f))) (λ h g. some_init_fits init h
-        (some_fits u N keys false Value _ (declared_name d) words _ (attrs_past all attrs2 (label_past all asm_label g)))))
+        step (step (step (base_or d h (attrs_past all attrs f)
+        (declr_fits (Some Value) d refl h (attrs_past all attrs f))) (λ h g. some_init_fits init h
+        (some_fits u N keys false Value _ (declared_name d) words _
+        (attrs_past all attrs2 (label_past all asm_label g)))))
         (λ h g. done (dropped u N keys Value g))) (other_late_declrs_fit ds words false t)
 
     pub other_late_declrs_fit : (ds : InitDeclrs) (words : List Keyword) (is_untagged : Bool) (t : CType)
@@ -661,8 +685,10 @@ module _ (u : Spelling) (N : ℕ → Type 0) (keys : (m n : ℕ) → N m → N n
         Fine u N None qs k (auto_declrs_scopes ds h) (init_declrs_named u words is_untagged t ds s) ts
     other_late_declrs_fit no_init_declrs words is_untagged t h f = done f
     other_late_declrs_fit (more_init_declrs attrs d asm_label attrs2 init ds) words is_untagged t h f =
-        step (step (step (base_or d h (attrs_past all attrs (eat f)) (declr_fits (Some Value) d refl h (attrs_past all attrs (eat f)))) (λ h g. some_init_fits init h
-        (some_fits u N keys false Value _ (declared_name d) words _ (attrs_past all attrs2 (label_past all asm_label g)))))
+        step (step (step (base_or d h (attrs_past all attrs (eat f))
+        (declr_fits (Some Value) d refl h (attrs_past all attrs (eat f)))) (λ h g. some_init_fits init h
+        (some_fits u N keys false Value _ (declared_name d) words _
+        (attrs_past all attrs2 (label_past all asm_label g)))))
         (λ h g. done (dropped u N keys Value g))) (other_late_declrs_fit ds words false t)
 
     pub declaration_fits : (d : Declaration)
@@ -715,7 +741,8 @@ module _ (u : Spelling) (N : ℕ → Type 0) (keys : (m n : ℕ) → N m → N n
     stmt_fits (while_stmt keyword opening e closing t) h f =
         own (step (expr_fits e false _ (entered (eat (eat f)))) (λ h g. own (stmt_fits t _ (entered (eat g)))))
     stmt_fits (do_stmt keyword t keyword2 opening e closing semi) h f =
-        own (step (own (stmt_fits t _ (entered (entered (eat f))))) (λ h g. ends (ends (expr_fits e false h (eat (eat g))))))
+        own (step (own (stmt_fits t _ (entered (entered (eat f)))))
+        (λ h g. ends (ends (expr_fits e false h (eat (eat g))))))
     stmt_fits (for_stmt keyword opening start e semi e2 closing t) h f =
         own (step (step (step (for_start_fits start _ (entered (eat (eat f)))) (some_expr_fits e))
         (λ h g. some_expr_fits e2 h (eat g))) (λ h g. own (stmt_fits t _ (entered (eat g)))))

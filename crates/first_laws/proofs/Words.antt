@@ -1,7 +1,7 @@
 -- Kinds of names in a scope, and the names among tokens.
-use Rattle.std.proofs.Common.{◌≡◌, ℕ, nat_eq, Bool, true, false, List, [], ◌∷◌, Option, None, Some, refl, sym, ◌∙◌, ap}
+use Rattle.std.proofs.Common.{◌≡◌, ℕ, nat_eq, Bool, true, false, List, [], ◌∷◌, Option, None, Some, refl, ◌∙◌, ap}
 use Rattle.std.specs.Prelude.{if◌then◌else◌}
-use Rattle.std.proofs.lemmas.Bool.{eq-eqb, eqb-true}
+use Rattle.std.proofs.lemmas.Bool.{eq-eqb}
 use Rattle.c_words.specs.declared.kinds.TokenKind.{TokenKind}
 use Rattle.c_words.specs.declared.kinds.TokenKind.TheVariants as kinds
 use Rattle.c_tree.specs.declared.lexeme.Lexeme.{Lexeme}
@@ -10,14 +10,6 @@ use Rattle.typedef_scope.specs.declared.kind.Kind.TheVariants.{Typedef, Value, C
 use Rattle.typedef_scope.specs.Scopes.{is_same, kind_in}
 use Rattle.c_units.specs.HeldScopes.{HeldScope, admits, may_declare, with_kind, with_name}
 use Rattle.first_laws.specs.Firsts.{is_named, has_name}
-
--- numbers that differ one way round differ the other way round
-pub other_way : (m n : ℕ) → nat_eq m n ≡ false → nat_eq n m ≡ false
-other_way m n e = by (nat_eq n m) refl
-  where
-    by : (b : Bool) → nat_eq n m ≡ b → b ≡ false
-    by false is = refl
-    by true is = let same : nat_eq m n ≡ true = eq-eqb m n (sym (eqb-true n m is)) in absurd cc
 
 -- kinds
 

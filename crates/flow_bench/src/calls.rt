@@ -2,12 +2,12 @@
 
 ghost use Rattle.std.specs.Prelude.{◌≤◌, ◌<◌, ◌+◌, ◌*◌};
 
-use crate::fault::Fault;
+use crate::failure::Failure;
 use crate::making::{add, add_site, bound, constant, enter, le, leave, own};
 use flow_graph::{FlowGraph, Link};
 
 /// The functions with their variables, and the sites: one more function than calls.
-fn add_functions(graph: &mut FlowGraph, calls: u32) -> Result<(), Fault>
+fn add_functions(graph: &mut FlowGraph, calls: u32) -> Result<(), Failure>
     requires { calls ≤ 1000000 }
 {
     for n in 0..calls + 1 {
@@ -58,7 +58,7 @@ fn last_link(calls: u32, at: u32) -> Link
 }
 
 /// Each function calls the next one.
-pub fn add_chain(graph: &mut FlowGraph, calls: u32) -> Result<(), Fault>
+pub fn add_chain(graph: &mut FlowGraph, calls: u32) -> Result<(), Failure>
     requires { calls ≤ 1000000 }
 {
     add_functions(graph, calls)?;
@@ -69,7 +69,7 @@ pub fn add_chain(graph: &mut FlowGraph, calls: u32) -> Result<(), Fault>
 }
 
 /// The same constraints from the last to the first.
-pub fn add_reversed(graph: &mut FlowGraph, calls: u32) -> Result<(), Fault>
+pub fn add_reversed(graph: &mut FlowGraph, calls: u32) -> Result<(), Failure>
     requires { calls ≤ 1000000 }
 {
     add_functions(graph, calls)?;
@@ -81,7 +81,7 @@ pub fn add_reversed(graph: &mut FlowGraph, calls: u32) -> Result<(), Fault>
 }
 
 /// A chain whose last function calls the first.
-pub fn add_ring(graph: &mut FlowGraph, calls: u32) -> Result<(), Fault>
+pub fn add_ring(graph: &mut FlowGraph, calls: u32) -> Result<(), Failure>
     requires { calls ≤ 1000000 }
 {
     add_chain(graph, calls)?;

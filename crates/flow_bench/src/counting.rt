@@ -5,7 +5,7 @@ ghost use Rattle.flow_graph.specs.Unfolding.{NamesElementsIn};
 ghost use Rattle.match_summary.specs.Summary.{Summarises};
 ghost use Rattle.lattice_solver.specs.Solution.{IsSolved};
 
-use crate::fault::Fault;
+use crate::failure::Failure;
 use crate::words::Goal;
 use error_path::{Reaches, show};
 use flow_graph::{FlowGraph, PathProof, is_well_owned, names_elements};
@@ -26,7 +26,7 @@ pub struct Counts {
 }
 
 /// An element with a name of one letter.
-fn entry(alloc: Global, letter: u8) -> Result<Entry, Fault> {
+fn entry(alloc: Global, letter: u8) -> Result<Entry, Failure> {
     Ok(Entry {
         name: Name::new(vec![in alloc; letter]?),
         level: Level::Value,
@@ -37,7 +37,7 @@ fn entry(alloc: Global, letter: u8) -> Result<Entry, Fault> {
 }
 
 /// A lattice of two elements, the second above.
-fn two(alloc: Global) -> Result<Lattice, Fault> {
+fn two(alloc: Global) -> Result<Lattice, Failure> {
     let mut entries = Vec::new(alloc);
     entries.push(entry(alloc, b'a')?)?;
     entries.push(entry(alloc, b'b')?)?;
@@ -47,7 +47,7 @@ fn two(alloc: Global) -> Result<Lattice, Fault> {
         high: Name::new(vec![in alloc; b'b']?),
     })?;
     if entries.is_empty() {
-        return Err(Fault::Unfit);
+        return Err(Failure::Unfit);
     }
     Ok(Lattice::build(alloc, entries, pairs.as_slice())?)
 }
@@ -83,7 +83,7 @@ fn steps(
     solver: &Solver,
     lattices: &Lattices,
     lattice: &Lattice,
-) -> Result<usize, Fault>
+) -> Result<usize, Failure>
     requires solved { IsSolved graph.now solver.now }
     requires summaries { Summarises graph.now solver.now.lattice summaries.now }
     requires lattice { slice_get lattices.now solver.now.lattice ≡ Some lattice.now }
@@ -101,9 +101,9 @@ fn steps(
 }
 
 /// Counts of a system in a lattice of two elements.
-pub fn count(alloc: Global, graph: &FlowGraph, goal: Goal) -> Result<Counts, Fault> {
+pub fn count(alloc: Global, graph: &FlowGraph, goal: Goal) -> Result<Counts, Failure> {
     if !is_well_owned(graph) {
-        return Err(Fault::Unfit);
+        return Err(Failure::Unfit);
     }
     let first = LatticeNo::new(0);
     let summaries = summarise(alloc, graph, first)?;
@@ -120,11 +120,11 @@ pub fn count(alloc: Global, graph: &FlowGraph, goal: Goal) -> Result<Counts, Fau
     let mut lattices = Lattices::new(alloc);
     lattices.push(two(alloc)?)?;
     if lattices.len() == 0 {
-        return Err(Fault::Unfit);
+        return Err(Failure::Unfit);
     }
     let lattice = lattices.get(first);
     if !names_elements(graph, first, lattice) {
-        return Err(Fault::Unfit);
+        return Err(Failure::Unfit);
     }
     let mut solver = Solver::new(alloc, graph, &summaries, first)?;
     solver.run(graph, &summaries);

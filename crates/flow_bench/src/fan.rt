@@ -2,7 +2,7 @@
 
 ghost use Rattle.std.specs.Prelude.{◌≤◌, ◌<◌};
 
-use crate::fault::Fault;
+use crate::failure::Failure;
 use crate::making::{add, add_site, bound, constant, enter, le, leave, own};
 use flow_graph::FlowGraph;
 
@@ -10,7 +10,7 @@ use flow_graph::FlowGraph;
 const PARAMETERS: u32 = 100;
 
 /// The flows of the function's parameters into its result.
-fn add_function(graph: &mut FlowGraph) -> Result<(), Fault> {
+fn add_function(graph: &mut FlowGraph) -> Result<(), Failure> {
     own(graph, 0, 0, PARAMETERS + 1)?;
     for n in 0..PARAMETERS {
         add(graph, le(n, PARAMETERS))?;
@@ -19,7 +19,7 @@ fn add_function(graph: &mut FlowGraph) -> Result<(), Fault> {
 }
 
 /// A caller with an argument for each parameter and a result, its variables from a number on, and its site.
-fn add_caller(graph: &mut FlowGraph, caller: u32) -> Result<(), Fault>
+fn add_caller(graph: &mut FlowGraph, caller: u32) -> Result<(), Failure>
     requires { caller < 1000000 }
 {
     let first = (PARAMETERS + 1) * (caller + 1);
@@ -32,7 +32,7 @@ fn add_caller(graph: &mut FlowGraph, caller: u32) -> Result<(), Fault>
 }
 
 /// Callers of one function. A constant goes into the first call, and a bound limits what comes out of it.
-pub fn add_fan(graph: &mut FlowGraph, callers: u32) -> Result<(), Fault>
+pub fn add_fan(graph: &mut FlowGraph, callers: u32) -> Result<(), Failure>
     requires { callers ≤ 1000000 }
 {
     add_function(graph)?;

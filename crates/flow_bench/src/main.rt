@@ -6,8 +6,8 @@
 
 mod calls;
 mod counting;
+mod failure;
 mod fan;
-mod fault;
 mod making;
 mod random;
 #[cfg(test)]
@@ -16,7 +16,7 @@ mod wide;
 mod words;
 
 use counting::{Counts, count};
-use fault::Fault;
+use failure::Failure;
 use making::make;
 use std::alloc::Global;
 use std::env;
@@ -24,7 +24,7 @@ use std::process::ExitCode;
 use words::meaning;
 
 /// The words after the program's name.
-fn words_of(rt: &HostRuntime, alloc: Global) -> Result<Vec<String>, Fault> {
+fn words_of(rt: &HostRuntime, alloc: Global) -> Result<Vec<String>, Failure> {
     let mut words = Vec::new(alloc);
     match env::args(rt) {
         Ok(args) => {
@@ -32,20 +32,20 @@ fn words_of(rt: &HostRuntime, alloc: Global) -> Result<Vec<String>, Fault> {
                 words.push(word)?;
             }
         }
-        Err(_) => return Err(Fault::Words),
+        Err(_) => return Err(Failure::Words),
     }
     Ok(words)
 }
 
 /// Makes the system that the words ask for, and counts what is found of it.
-fn run(alloc: Global, words: &[String]) -> Result<Counts, Fault> {
-    let wanted = meaning(words).ok_or(Fault::Words)?;
+fn run(alloc: Global, words: &[String]) -> Result<Counts, Failure> {
+    let wanted = meaning(words).ok_or(Failure::Words)?;
     let graph = make(alloc, wanted.kind, wanted.size)?;
     count(alloc, &graph, wanted.goal)
 }
 
 /// Prints the counts, a line each.
-fn print(rt: &impl Print, counts: &Counts) -> Result<(), Fault> {
+fn print(rt: &impl Print, counts: &Counts) -> Result<(), Failure> {
     println!(rt; "constraints {}", counts.constraints)?;
     println!(rt; "variables {}", counts.variables)?;
     println!(rt; "pairs {}", counts.pairs)?;
@@ -55,7 +55,7 @@ fn print(rt: &impl Print, counts: &Counts) -> Result<(), Fault> {
 }
 
 /// Counts what the words ask for and prints it.
-fn answer(rt: &HostRuntime) -> Result<(), Fault> {
+fn answer(rt: &HostRuntime) -> Result<(), Failure> {
     let alloc = rt.alloc();
     let words = words_of(rt, alloc)?;
     let counts = run(alloc, &words)?;

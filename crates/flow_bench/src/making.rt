@@ -4,8 +4,8 @@ ghost use Rattle.std.specs.Prelude.{◌<◌, ◌^◌, ◌↔◌, IsTrue, IfOk};
 ghost use Rattle.flow_graph.specs.System.{IsWithin};
 
 use crate::calls::{add_chain, add_reversed, add_ring};
+use crate::failure::Failure;
 use crate::fan::add_fan;
-use crate::fault::Fault;
 use crate::random::add_random;
 use crate::wide::add_wide;
 use crate::words::Kind;
@@ -19,9 +19,9 @@ pub const MOST: u32 = 1_000_000;
 /// A system of a kind and a size. Time and memory are linear in its constraints: about two for each call of a chain or a
 /// ring, a hundred for each caller of a fan, four for each parameter of a wide call, and as many as the size in a random
 /// system.
-pub fn make(alloc: Global, kind: Kind, size: u32) -> Result<FlowGraph, Fault> {
+pub fn make(alloc: Global, kind: Kind, size: u32) -> Result<FlowGraph, Failure> {
     if size > MOST {
-        return Err(Fault::Unfit);
+        return Err(Failure::Unfit);
     }
     let mut graph = FlowGraph::new(alloc);
     match kind {
@@ -50,7 +50,7 @@ fn is_elem(lattice: LatticeNo, elem: Elem) -> bool
 }
 
 /// The link, where its numbers are below their limits.
-fn within(sites: u32, link: Link) -> Result<Link, Fault>
+fn within(sites: u32, link: Link) -> Result<Link, Failure>
     ensures { IfOk result (IsWithin sites) }
 {
     match link {
@@ -63,12 +63,12 @@ fn within(sites: u32, link: Link) -> Result<Link, Fault>
         Link::Leave(site, from, to) if site.number() < sites && (is_var(from) && is_var(to)) => {
             Ok(link)
         }
-        _ => Err(Fault::Unfit),
+        _ => Err(Failure::Unfit),
     }
 }
 
 /// Adds a constraint of the first lattice.
-pub fn add(graph: &mut FlowGraph, link: Link) -> Result<(), Fault> {
+pub fn add(graph: &mut FlowGraph, link: Link) -> Result<(), Failure> {
     let link = within(graph.sites(), link)?;
     graph.add(Constraint {
         link,
@@ -83,9 +83,9 @@ pub fn add(graph: &mut FlowGraph, link: Link) -> Result<(), Fault> {
 }
 
 /// Adds a call site.
-pub fn add_site(graph: &mut FlowGraph, owner: u32, target: u32) -> Result<(), Fault> {
+pub fn add_site(graph: &mut FlowGraph, owner: u32, target: u32) -> Result<(), Failure> {
     if graph.sites() > MOST {
-        return Err(Fault::Unfit);
+        return Err(Failure::Unfit);
     }
     graph.add_site(Site {
         unit: UnitNo::new(1),
@@ -97,11 +97,11 @@ pub fn add_site(graph: &mut FlowGraph, owner: u32, target: u32) -> Result<(), Fa
 }
 
 /// Gives variables to a function: so many, from one on.
-pub fn own(graph: &mut FlowGraph, function: u32, from: u32, count: u32) -> Result<(), Fault> {
+pub fn own(graph: &mut FlowGraph, function: u32, from: u32, count: u32) -> Result<(), Failure> {
     for n in 0..count {
         let at = VarId::new(from.wrapping_add(n));
         if !is_var(at) {
-            return Err(Fault::Unfit);
+            return Err(Failure::Unfit);
         }
         graph.set_owner(at, Owner::Function(FuncId::new(function)))?;
     }

@@ -2,7 +2,7 @@
 
 ghost use Rattle.std.specs.Prelude.{◌≤◌, ◌<◌};
 
-use crate::fault::Fault;
+use crate::failure::Failure;
 use crate::making::{add, add_site, bound, constant, enter, le, leave, own};
 use flow_graph::{FlowGraph, Link};
 use qual_base::{Numbered, Owner, SiteId};
@@ -46,18 +46,18 @@ impl Draws {
 }
 
 /// A variable of an owner. Nobody owns none.
-fn variable_of(draws: &mut Draws, owner: Owner) -> Result<u32, Fault> {
+fn variable_of(draws: &mut Draws, owner: Owner) -> Result<u32, Failure> {
     match owner {
         Owner::Function(f) => Ok(draws.variable(f.number())),
-        Owner::Nobody => Err(Fault::Unfit),
+        Owner::Nobody => Err(Failure::Unfit),
     }
 }
 
 /// A call at a site, or a return.
-fn crossing(graph: &FlowGraph, draws: &mut Draws, is_call: bool) -> Result<Link, Fault> {
+fn crossing(graph: &FlowGraph, draws: &mut Draws, is_call: bool) -> Result<Link, Failure> {
     let sites = graph.sites();
     if sites == 0 {
-        return Err(Fault::Unfit);
+        return Err(Failure::Unfit);
     }
     let at = draws.below(sites);
     let site = graph.site(SiteId::new(at));
@@ -71,7 +71,7 @@ fn crossing(graph: &FlowGraph, draws: &mut Draws, is_call: bool) -> Result<Link,
 }
 
 /// A flow inside a function in half of the cases, else a call or a return.
-fn drawn(graph: &FlowGraph, draws: &mut Draws, functions: u32) -> Result<Link, Fault>
+fn drawn(graph: &FlowGraph, draws: &mut Draws, functions: u32) -> Result<Link, Failure>
     requires { 0 < functions }
 {
     match draws.below(4) {
@@ -86,7 +86,7 @@ fn drawn(graph: &FlowGraph, draws: &mut Draws, functions: u32) -> Result<Link, F
 }
 
 /// The functions with their variables, and as many sites.
-fn add_functions(graph: &mut FlowGraph, draws: &mut Draws, functions: u32) -> Result<(), Fault>
+fn add_functions(graph: &mut FlowGraph, draws: &mut Draws, functions: u32) -> Result<(), Failure>
     requires { 0 < functions }
 {
     for n in 0..functions {
@@ -102,7 +102,7 @@ fn add_ends(
     draws: &mut Draws,
     functions: u32,
     ends: u32,
-) -> Result<(), Fault>
+) -> Result<(), Failure>
     requires { 0 < functions }
 {
     for _ in 0..ends {
@@ -116,7 +116,7 @@ fn add_ends(
 
 /// So many constraints, or those that are constants and bounds where these are more. There is a function for each eight
 /// constraints, and a constant and a bound for each eight functions.
-pub fn add_random(graph: &mut FlowGraph, size: u32) -> Result<(), Fault>
+pub fn add_random(graph: &mut FlowGraph, size: u32) -> Result<(), Failure>
     requires { size ≤ 1000000 }
 {
     let mut draws = Draws::new();

@@ -2,7 +2,7 @@
 
 ghost use Rattle.std.specs.Prelude.{◌≤◌, ◌<◌};
 
-use crate::fault::Fault;
+use crate::failure::Failure;
 use crate::making::{add, add_site, bound, constant, enter, le, leave, own};
 use flow_graph::FlowGraph;
 
@@ -44,7 +44,7 @@ impl Layout {
 }
 
 /// What comes in flows into an argument, a parameter, its result and an outcome.
-fn add_parameter(graph: &mut FlowGraph, layout: Layout, n: u32) -> Result<(), Fault>
+fn add_parameter(graph: &mut FlowGraph, layout: Layout, n: u32) -> Result<(), Failure>
     requires count { layout.count ≤ 1000000 }
     requires n { n < layout.count }
 {
@@ -56,7 +56,7 @@ fn add_parameter(graph: &mut FlowGraph, layout: Layout, n: u32) -> Result<(), Fa
 
 /// A function that calls one with so many parameters, of which each comes back by a result of its own, and is called itself.
 /// A constant goes into that call, and a bound limits the last outcome.
-pub fn add_wide(graph: &mut FlowGraph, count: u32) -> Result<(), Fault>
+pub fn add_wide(graph: &mut FlowGraph, count: u32) -> Result<(), Failure>
     requires { count ≤ 1000000 }
 {
     let layout = Layout { count };

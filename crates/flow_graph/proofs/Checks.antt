@@ -7,6 +7,7 @@ use Rattle.flow_graph.specs.declared.constraint.Link.TheVariants.{Le, Const, Bou
 use Rattle.flow_graph.specs.Unfolding.{NamesElementsIn}
 use Rattle.flow_graph.specs.Conditions.{IsOwnedAt, IsNamedAt}
 
+-- a system is well owned where each constraint below their number is
 pub all_owned : (sys : System) → ((n : ℕ) → n < length sys.constraints → IsOwnedAt sys n) → IsWellOwned sys
 all_owned sys all = record {
   le = λ n u v f g has. all n (slice_get_within sys.constraints n has.constraint has.there) (Le u v) has f g;
@@ -14,6 +15,7 @@ all_owned sys all = record {
   leave = λ n s u v has. all n (slice_get_within sys.constraints n has.constraint has.there) (Leave s u v) has;
 }
 
+-- each constraint of a well owned system joins owners that it may
 pub each_owned : (sys : System) → IsWellOwned sys → (n : ℕ) → IsOwnedAt sys n
 each_owned sys owned n (Le u v) has = λ f g. owned.le n u v f g has
 each_owned sys owned n (Const l e v) has = tt
@@ -21,6 +23,7 @@ each_owned sys owned n (Bound v l e) has = tt
 each_owned sys owned n (Enter s u v) has = owned.enter n s u v has
 each_owned sys owned n (Leave s u v) has = owned.leave n s u v has
 
+-- a system names elements where each constraint below their number does
 pub all_named : (sys : System) (lattice : ℕ) (order : Order)
     → ((n : ℕ) → n < length sys.constraints → IsNamedAt sys lattice order n) → NamesElementsIn sys lattice order
 all_named sys lattice order all = record {
@@ -30,12 +33,23 @@ all_named sys lattice order all = record {
       (record { constraint = stands.constraint; there = stands.there; link_is = stands.link_is }) refl;
 }
 
+-- each constraint of a system that names elements does
 pub each_named : (sys : System) (lattice : ℕ) (order : Order) → NamesElementsIn sys lattice order → (n : ℕ)
     → IsNamedAt sys lattice order n
 each_named sys lattice order named n (Le u v) has = tt
 each_named sys lattice order named n (Const l e v) has = λ is. named.const n e v
-    (record { constraint = has.constraint; there = has.there; link_is = has.link_is ∙ ap (λ k. Const k e v) is; carried = refl })
+    (record {
+      constraint = has.constraint;
+      there = has.there;
+      link_is = has.link_is ∙ ap (λ k. Const k e v) is;
+      carried = refl;
+    })
 each_named sys lattice order named n (Bound v l e) has = λ is. named.bound n v e
-    (record { constraint = has.constraint; there = has.there; link_is = has.link_is ∙ ap (λ k. Bound v k e) is; carried = refl })
+    (record {
+      constraint = has.constraint;
+      there = has.there;
+      link_is = has.link_is ∙ ap (λ k. Bound v k e) is;
+      carried = refl;
+    })
 each_named sys lattice order named n (Enter s u v) has = tt
 each_named sys lattice order named n (Leave s u v) has = tt

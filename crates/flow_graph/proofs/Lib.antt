@@ -1,7 +1,9 @@
 mod Highest
-mod Bounds
+pub mod Bounds
 mod Keeping
 mod Owning
 mod Checks
 mod Sorting
 mod Listing
+pub mod Links
+pub mod Keyed

@@ -25,7 +25,8 @@ owner-set_same cells at cell owner is lt =
     owner_at (set cells at cell) at ∙ ap owner_in (get_or-set_same cells at cell 0 lt) ∙ is
 
 pub owner-set_other : (old new : List ℕ) (at u cell : ℕ) → get_or new u 0 ≡ get_or old u 0 → u ≢ at
-    → unwrap_or (slice_get (map owner_in (set new at cell)) u) Nobody ≡ unwrap_or (slice_get (map owner_in old) u) Nobody
+    → unwrap_or (slice_get (map owner_in (set new at cell)) u) Nobody
+    ≡ unwrap_or (slice_get (map owner_in old) u) Nobody
 owner-set_other old new at u cell same other =
     owner_at (set new at cell) u ∙ ap owner_in (get_or-set_other new at u cell 0 other ∙ same) ∙ sym (owner_at old u)
 

@@ -10,7 +10,8 @@ use Rattle.flow_graph.specs.System.{System, Calls}
 abbrev pub IsCallString : System → Owner → List ℕ → Type 0
 IsCallString sys owner [] = Unit {0}
 IsCallString sys owner (site ∷ []) = (outer : Owner) × Calls sys site outer owner
-IsCallString sys owner (site ∷ before ∷ sites) = (outer : Owner) × Calls sys site outer owner × IsCallString sys outer (before ∷ sites)
+IsCallString sys owner (site ∷ before ∷ sites) =
+    (outer : Owner) × Calls sys site outer owner × IsCallString sys outer (before ∷ sites)
 
 -- The copies of an owner at a depth are its call strings of at most that many sites. What belongs to nobody is there
 -- once.

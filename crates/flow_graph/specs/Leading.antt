@@ -52,7 +52,8 @@ pub data Goes (sys : System) (lattice start : ℕ) : Phase → ℕ → Type 0 wh
       → Stands sys lattice n (Enter s u v) →
       Goes sys lattice start q v
   Rounds : (p : Phase) (u a b v s g n m : ℕ) (q : Phase) → q ≡ settled (owner_of sys v) p → Goes sys lattice start p u →
-      Stands sys lattice n (Enter s u a) → Matches sys lattice g a b → Stands sys lattice m (Leave s b v) → Goes sys lattice start q v
+      Stands sys lattice n (Enter s u a) → Matches sys lattice g a b → Stands sys lattice m (Leave s b v)
+      → Goes sys lattice start q v
 
 -- a path leads from one variable to another, in some phase
 abbrev pub GoesTo : System → ℕ → ℕ → ℕ → Type 0

@@ -5,7 +5,7 @@ use Rattle.qual_base.specs.declared.places.Owner.TheVariants.{Nobody, Function}
 use Rattle.flow_graph.specs.declared.constraint.Link.TheVariants.{Le, Const, Bound, Enter, Leave}
 use Rattle.flow_graph.specs.declared.proof.PathStep.{PathStep}
 use Rattle.flow_graph.specs.declared.proof.PathStep.TheVariants.{Take, Sub}
-use Rattle.flow_graph.specs.declared.place.Seen.TheVariants.{Through}
+use Rattle.flow_graph.specs.declared.step.Seen.TheVariants.{Through}
 use Rattle.flow_graph.specs.System.{System, owner_of, Stands}
 use Rattle.flow_graph.specs.PathProofs.{look}
 use Rattle.flow_graph.specs.declared.phase.Phase.{Phase}
@@ -27,14 +27,16 @@ pub data Part (sys : System) (lattice : ℕ) (subs : List (List PathStep)) : ℕ
       Part sys lattice subs u v (Take n 0 ∷ Sub k 0 ∷ Take m 0 ∷ [])
 
 -- These steps are parts inside one function.
-pub data Inside (sys : System) (lattice : ℕ) (subs : List (List PathStep)) (f : ℕ) : ℕ → ℕ → List PathStep → Type 0 where
+pub data Inside (sys : System) (lattice : ℕ) (subs : List (List PathStep)) (f : ℕ) : ℕ → ℕ → List PathStep
+    → Type 0 where
   Done : (v : ℕ) → Inside sys lattice subs f v v []
   More : (u x v : ℕ) (front rest : List PathStep) → Part sys lattice subs u x front → owner_of sys u ≡ Function f
       → owner_of sys x ≡ Function f →
       Inside sys lattice subs f x v rest → Inside sys lattice subs f u v (front ++ rest)
 
 -- These steps are a sub-path from a variable to another: one or more parts inside one function.
-pub record IsSub (sys : System) (lattice : ℕ) (subs : List (List PathStep)) (u v : ℕ) (steps : List PathStep) : Type 0 where
+pub record IsSub (sys : System) (lattice : ℕ) (subs : List (List PathStep)) (u v : ℕ)
+    (steps : List PathStep) : Type 0 where
   pub function : ℕ
   pub next : ℕ
   pub front : List PathStep
@@ -58,21 +60,25 @@ pub data Goal : Type 0 where
   ToVariable : ℕ → Goal
 
 -- These steps lead on from a variable in a phase to a goal: parts, Leaves as long as no call is open, Enters, and the
--- bound, if it
--- is one.
-pub data Onward (sys : System) (lattice : ℕ) (subs : List (List PathStep)) : Goal → Phase → ℕ → List PathStep → Type 0 where
+-- bound, if it is one.
+pub data Onward (sys : System) (lattice : ℕ) (subs : List (List PathStep)) : Goal → Phase → ℕ → List PathStep
+    → Type 0 where
   Ends : (bound : ℕ) (p : Phase) (v limit : ℕ) → Stands sys lattice bound (Bound v lattice limit) →
       Onward sys lattice subs (ToBound bound) p v (Take bound 0 ∷ [])
   There : (p : Phase) (v : ℕ) → Onward sys lattice subs (ToVariable v) p v []
   Along : (goal : Goal) (p : Phase) (u v : ℕ) (front rest : List PathStep) → Part sys lattice subs u v front →
-      Onward sys lattice subs goal (settled (owner_of sys v) p) v rest → Onward sys lattice subs goal p u (front ++ rest)
+      Onward sys lattice subs goal (settled (owner_of sys v) p) v rest
+      → Onward sys lattice subs goal p u (front ++ rest)
   Back : (goal : Goal) (u v s n : ℕ) (rest : List PathStep) → Stands sys lattice n (Leave s u v) →
-      Onward sys lattice subs goal (settled (owner_of sys v) First) v rest → Onward sys lattice subs goal First u (Take n 0 ∷ rest)
+      Onward sys lattice subs goal (settled (owner_of sys v) First) v rest
+      → Onward sys lattice subs goal First u (Take n 0 ∷ rest)
   Into : (goal : Goal) (p : Phase) (u v s n : ℕ) (rest : List PathStep) → Stands sys lattice n (Enter s u v) →
-      Onward sys lattice subs goal (settled (owner_of sys v) Second) v rest → Onward sys lattice subs goal p u (Take n 0 ∷ rest)
+      Onward sys lattice subs goal (settled (owner_of sys v) Second) v rest
+      → Onward sys lattice subs goal p u (Take n 0 ∷ rest)
 
 -- These steps are a path from a constant of an element to a bound.
-pub record IsPath (sys : System) (lattice : ℕ) (subs : List (List PathStep)) (elem bound : ℕ) (steps : List PathStep) : Type 0 where
+pub record IsPath (sys : System) (lattice : ℕ) (subs : List (List PathStep)) (elem bound : ℕ)
+    (steps : List PathStep) : Type 0 where
   pub start : ℕ
   pub from : ℕ
   pub constant : Stands sys lattice start (Const lattice elem from)

@@ -13,11 +13,11 @@ use Rattle.flow_graph.specs.declared.proof.Why.TheVariants.{B1}
 use Rattle.flow_graph.specs.declared.proof.BadStep.{BadStep}
 use Rattle.flow_graph.specs.declared.proof.SubPath.{SubPath}
 use Rattle.flow_graph.specs.declared.proof.PathProof.{PathProof}
-use Rattle.flow_graph.specs.declared.place.Seen.{Seen}
-use Rattle.flow_graph.specs.declared.place.Seen.TheVariants.{Edge, Through, NoSub, NoEdge}
-use Rattle.flow_graph.specs.declared.place.Path.{Path}
-use Rattle.flow_graph.specs.declared.place.Path.TheVariants.{Main, Sub}
-use Rattle.flow_graph.specs.declared.place.Place.{Place}
+use Rattle.flow_graph.specs.declared.step.Seen.{Seen}
+use Rattle.flow_graph.specs.declared.step.Seen.TheVariants.{Edge, Through, NoSub, NoEdge}
+use Rattle.flow_graph.specs.declared.step.Path.{Path}
+use Rattle.flow_graph.specs.declared.step.Path.TheVariants.{Main, Sub}
+use Rattle.flow_graph.specs.declared.step.StepInPath.{StepInPath}
 use Rattle.flow_graph.specs.System.{System, owner_of}
 use Rattle.flow_graph.specs.PathRules.{begins, ends, is_unmatched_enter, is_bound, rule_at}
 
@@ -67,7 +67,8 @@ span_of sys None = NoSub
 
 -- no two of these sub-paths have the same first and last variables
 abbrev pub AreApart : System → List (List PathStep) → Type 0
-AreApart sys subs = (n m : ℕ) (one other : List PathStep) → slice_get subs n ≡ Some one → slice_get subs m ≡ Some other →
+AreApart sys subs =
+    (n m : ℕ) (one other : List PathStep) → slice_get subs n ≡ Some one → slice_get subs m ≡ Some other →
     span_of sys (Some one) ≡ span_of sys (Some other) → n ≡ m
 
 -- what a step names, where these sub-paths are the earlier ones: they count from 1
@@ -85,14 +86,15 @@ abbrev pub ends_with_nobody : System → Option ℕ → Bool
 ends_with_nobody sys (Some v) = is_nobodys (owner_of sys v)
 ends_with_nobody sys None = false
 
--- an unmatched Enter stands at a place or before it, with no variable of nobody since
-abbrev pub stays_in_call : System → Place → Bool
+-- an unmatched Enter is a step or stands before it, with no variable of nobody since
+abbrev pub stays_in_call : System → StepInPath → Bool
 stays_in_call sys p = not (ends_with_nobody sys (ends p.step)) && (is_unmatched_enter p || p.in_call)
 
--- Where a step stands in a path. What comes before it is given with the last step first.
+-- A step in a path. What comes before it is given with the last step first.
 module _ (sys : System) (path : Path) (lattice elem : ℕ) where
-  abbrev pub place_with : Bool → List Seen → Seen → List Seen → Place
-  place_with in_call before step after = record {
+  -- a step with the steps before and behind it, inside a call or not
+  abbrev pub in_path_with : Bool → List Seen → Seen → List Seen → StepInPath
+  in_path_with in_call before step after = record {
     path = path;
     two_before = second_of before;
     one_before = first_of before;
@@ -103,12 +105,15 @@ module _ (sys : System) (path : Path) (lattice elem : ℕ) where
     elem = elem;
   }
 
+  -- whether a call is open between the steps before and those behind
   abbrev pub in_call_at : List Seen → List Seen → Bool
   in_call_at [] after = false
-  in_call_at (step ∷ before) after = stays_in_call sys (place_with (in_call_at before (step ∷ after)) before step after)
+  in_call_at (step ∷ before) after =
+      stays_in_call sys (in_path_with (in_call_at before (step ∷ after)) before step after)
 
-  abbrev pub place : List Seen → Seen → List Seen → Place
-  place before step after = place_with (in_call_at before (step ∷ after)) before step after
+  -- a step with the steps before and behind it
+  abbrev pub in_path : List Seen → Seen → List Seen → StepInPath
+  in_path before step after = in_path_with (in_call_at before (step ∷ after)) before step after
 
 -- the rule that fails at this line, or else what fails later
 abbrev pub fault_or : Option Why → ℕ → Option BadStep → Option BadStep
@@ -125,7 +130,7 @@ abbrev pub first_failing : System → Order → Path → ℕ → ℕ → (PathSt
     → Option BadStep
 first_failing sys order path lattice elem see before [] = None
 first_failing sys order path lattice elem see before (s ∷ steps) =
-    fault_or (rule_at sys order (place sys path lattice elem before (see s) (map see steps))) (line_of s)
+    fault_or (rule_at sys order (in_path sys path lattice elem before (see s) (map see steps))) (line_of s)
     (first_failing sys order path lattice elem see (see s ∷ before) steps)
 
 -- a sub-path's owner is that of its first variable
@@ -141,7 +146,8 @@ home_of sys steps = owner_at sys (of_step sys (first_of steps) begins)
 abbrev pub subs_fault : System → Order → ℕ → ℕ → List (List PathStep) → List (List PathStep) → Option BadStep
 subs_fault sys order lattice elem earlier [] = None
 subs_fault sys order lattice elem earlier (s ∷ subs) =
-    or_else (first_failing sys order (Sub (home_of sys s)) lattice elem (look sys earlier) [] s) (subs_fault sys order lattice elem (earlier ++ s ∷ []) subs)
+    or_else (first_failing sys order (Sub (home_of sys s)) lattice elem (look sys earlier) [] s)
+    (subs_fault sys order lattice elem (earlier ++ s ∷ []) subs)
 
 -- a main path ends in a bound
 abbrev pub ends_in_bound : System → Option PathStep → Bool
@@ -166,21 +172,23 @@ start_of _ = (0, 0)
 -- end.
 abbrev pub main_fault : System → Order → ℕ → ℕ → List (List PathStep) → PathStep → List PathStep → ℕ → Option BadStep
 main_fault sys order lattice elem subs first main end =
-    or_else (fault_or (rule_at sys order (place sys Main lattice elem [] (look sys subs first) (map (look sys subs) main))) (line_of first) None)
+    or_else (fault_or (rule_at sys order
+    (in_path sys Main lattice elem [] (look sys subs first) (map (look sys subs) main))) (line_of first) None)
     (or_else (subs_fault sys order lattice elem [] subs)
-    (or_else (first_failing sys order Main lattice elem (look sys subs) [] (first ∷ main)) (end_fault sys (first ∷ main) end)))
+    (or_else (first_failing sys order Main lattice elem (look sys subs) [] (first ∷ main))
+    (end_fault sys (first ∷ main) end)))
 
 -- an order without elements, in which nothing is at or below anything
 abbrev pub no_order : Order
 no_order = record { above = [] }
 
 -- The first step that fails, with the first of its rules. Each constraint is read in the lattice of the main path's
--- first
--- step. A main path without a step fails at its end before all else.
+-- first step. A main path without a step fails at its end before all else.
 abbrev pub first_fault : System → List Order → List (List PathStep) → List PathStep → ℕ → Option BadStep
 first_fault sys orders subs [] end = Some (record { line = end; why = B1 })
 first_fault sys orders subs (first ∷ main) end =
-    let start = start_of (edge_at sys first) in main_fault sys (unwrap_or (slice_get orders start.0) no_order) start.0 start.1 subs first main end
+    let start = start_of (edge_at sys first) in
+    main_fault sys (unwrap_or (slice_get orders start.0) no_order) start.0 start.1 subs first main end
 
 -- the steps of each sub-path
 abbrev pub steps_of : List SubPath → List (List PathStep)

@@ -1,4 +1,4 @@
--- The rules of path proofs, each a test of where a step stands.
+-- The rules of path proofs, each a test of a step with the steps around it.
 use Rattle.std.specs.Prelude.{ℕ, Bool, true, false, not, ◌&&◌, ◌||◌, ◌==◌, Option, Some, None, if◌then◌else◌}
 use Rattle.std.specs.Int.{bit_at}
 use Rattle.qual_base.specs.declared.places.Owner.{Owner}
@@ -8,11 +8,11 @@ use Rattle.flow_graph.specs.declared.constraint.Link.{Link}
 use Rattle.flow_graph.specs.declared.constraint.Link.TheVariants.{Le, Const, Bound, Enter, Leave}
 use Rattle.flow_graph.specs.declared.proof.Why.{Why}
 use Rattle.flow_graph.specs.declared.proof.Why.TheVariants.{B1, B2, B3, B4, B5, B6, B7}
-use Rattle.flow_graph.specs.declared.place.Seen.{Seen}
-use Rattle.flow_graph.specs.declared.place.Seen.TheVariants.{Edge, Through, NoSub, NoEdge}
-use Rattle.flow_graph.specs.declared.place.Path.{Path}
-use Rattle.flow_graph.specs.declared.place.Path.TheVariants.{Main, Sub}
-use Rattle.flow_graph.specs.declared.place.Place.{Place}
+use Rattle.flow_graph.specs.declared.step.Seen.{Seen}
+use Rattle.flow_graph.specs.declared.step.Seen.TheVariants.{Edge, Through, NoSub, NoEdge}
+use Rattle.flow_graph.specs.declared.step.Path.{Path}
+use Rattle.flow_graph.specs.declared.step.Path.TheVariants.{Main, Sub}
+use Rattle.flow_graph.specs.declared.step.StepInPath.{StepInPath}
 use Rattle.flow_graph.specs.System.{System, owner_of}
 
 -- the variable where a link begins; a constant begins at none
@@ -131,19 +131,19 @@ unfoldable pub begins_group : Seen → Option Seen → Bool
 begins_group step after = holds_of after (λ x. is_sub x || agree (enters step) (leaves x))
 
 -- the step right after a group's sub-path counts as inside the group
-unfoldable pub is_after_sub : Place → Bool
+unfoldable pub is_after_sub : StepInPath → Bool
 is_after_sub p = holds_of p.one_before is_sub && is_there (site_entered p.two_before)
 
 -- a Leave right after the Enter of its group
-unfoldable pub closes : Place → Bool
+unfoldable pub closes : StepInPath → Bool
 closes p = agree (site_entered p.one_before) (leaves p.step)
 
 -- an Enter that begins no group and is not right behind a sub-path of one
-unfoldable pub is_unmatched_enter : Place → Bool
+unfoldable pub is_unmatched_enter : StepInPath → Bool
 is_unmatched_enter p = is_there (enters p.step) && not (begins_group p.step p.one_after) && not (is_after_sub p)
 
 -- a Leave that closes no group
-unfoldable pub is_unmatched_leave : Place → Bool
+unfoldable pub is_unmatched_leave : StepInPath → Bool
 is_unmatched_leave p = is_there (leaves p.step) && not (closes p) && not (is_after_sub p)
 
 -- Rule B1: the step is none that may stand there. Here: it names no constraint that there is.
@@ -152,43 +152,45 @@ is_unknown NoEdge = true
 is_unknown _ = false
 
 -- the first step of the main path, where it is not a constant
-unfoldable pub is_headless : Place → Bool
+unfoldable pub is_headless : StepInPath → Bool
 is_headless p = is_main p.path && not (is_there p.one_before) && not (is_const p.step)
 
 -- a later constant of the main path, or one in a sub-path
-unfoldable pub is_late_const : Place → Bool
+unfoldable pub is_late_const : StepInPath → Bool
 is_late_const p = is_const p.step && not (is_main p.path && not (is_there p.one_before))
 
 -- a bound in a sub-path
-unfoldable pub is_stray_bound : Place → Bool
+unfoldable pub is_stray_bound : StepInPath → Bool
 is_stray_bound p = is_bound p.step && not (is_main p.path)
 
 -- an unmatched Leave after an unmatched Enter, with no variable of nobody since that Enter
-unfoldable pub is_late_return : Place → Bool
+unfoldable pub is_late_return : StepInPath → Bool
 is_late_return p = is_main p.path && is_unmatched_leave p && p.in_call
 
 -- an unmatched Enter or Leave in a sub-path
-unfoldable pub is_unmatched_in_sub : Place → Bool
+unfoldable pub is_unmatched_in_sub : StepInPath → Bool
 is_unmatched_in_sub p = not (is_main p.path) && (is_unmatched_enter p || is_unmatched_leave p)
 
 -- a sub-path's number outside a group
-unfoldable pub is_loose_sub : Place → Bool
+unfoldable pub is_loose_sub : StepInPath → Bool
 is_loose_sub p = is_sub p.step && not (is_there (site_entered p.one_before)) && not (is_after_sub p)
 
 -- a step after a bound
-unfoldable pub follows_bound : Place → Bool
+unfoldable pub follows_bound : StepInPath → Bool
 follows_bound p = holds_of p.one_before is_bound
 
--- whether rule B1 fails at a place
-unfoldable pub fails_b1 : Place → Bool
-fails_b1 p = is_unknown p.step || is_headless p || is_late_const p || is_stray_bound p || is_late_return p || is_unmatched_in_sub p || is_loose_sub p || follows_bound p
+-- whether rule B1 fails at a step
+unfoldable pub fails_b1 : StepInPath → Bool
+fails_b1 p =
+    is_unknown p.step || is_headless p || is_late_const p || is_stray_bound p || is_late_return p
+    || is_unmatched_in_sub p || is_loose_sub p || follows_bound p
 
 -- Rule B2: the step does not begin at the variable where the one before ended.
-unfoldable pub fails_b2 : Place → Bool
+unfoldable pub fails_b2 : StepInPath → Bool
 fails_b2 p = differ (end_of p.one_before) (begins p.step)
 
 -- Rule B3: the step after a group's sub-path is not a Leave of the site of the group's Enter, or there is none.
-unfoldable pub fails_b3 : Place → Bool
+unfoldable pub fails_b3 : StepInPath → Bool
 fails_b3 p =
     is_after_sub p && not (agree (site_entered p.two_before) (leaves p.step))
     || is_sub p.step && not (is_there p.one_after)
@@ -245,8 +247,8 @@ abbrev pub is_kept : Order → ℕ → Seen → Bool
 is_kept order elem (Edge c) = is_kept_link order elem c.link
 is_kept order elem _ = false
 
--- the first rule that fails at a place
-unfoldable pub rule_at : System → Order → Place → Option Why
+-- the first rule that fails at a step
+unfoldable pub rule_at : System → Order → StepInPath → Option Why
 rule_at sys order p =
     if fails_b1 p then Some B1
     else if fails_b2 p then Some B2

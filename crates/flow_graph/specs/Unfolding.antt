@@ -22,13 +22,10 @@ abbrev pub at : System → Assignment → ℕ → List ℕ → ℕ
 at sys map v sites = map v (seen_from (owner_of sys v) sites)
 
 -- The assignment is one of lattice elements, and rises along each constraint of the unfolding at a depth but the
--- bounds.
--- A flow or a constant stands once in each copy of the function that owns one of its ends, and once where nobody owns
--- any.
--- An Enter of a site leads from a copy of the site's owner to the copy with that site behind, and a Leave leads back,
--- wherever both call strings have at most as many sites as the depth. Where nobody owns the site, the outer end is
--- there
--- once, and the inner end is in the copy whose call string is the site alone.
+-- bounds. A flow or a constant stands once in each copy of the function that owns one of its ends, and once where
+-- nobody owns any. An Enter of a site leads from a copy of the site's owner to the copy with that site behind, and a
+-- Leave leads back, wherever both call strings have at most as many sites as the depth. Where nobody owns the site, the
+-- outer end is there once, and the inner end is in the copy whose call string is the site alone.
 pub record Rises (sys : System) (lattice : ℕ) (order : Order) (depth : ℕ) (map : Assignment) : Type 0 where
   pub elements : (v : ℕ) (sites : List ℕ) → map v sites < size order
   pub le : (n u v : ℕ) (sites : List ℕ) → Stands sys lattice n (Le u v)
@@ -39,14 +36,17 @@ pub record Rises (sys : System) (lattice : ℕ) (order : Order) (depth : ℕ) (m
       leq order e (at sys map v sites) ≡ true
   pub enter : (n s u v : ℕ) (site : Site) (sites : List ℕ) → Stands sys lattice n (Enter s u v)
       → slice_get sys.sites s ≡ Some site →
-      IsCopy sys depth site.owner sites → length (s ∷ sites) ≤ depth → leq order (at sys map u sites) (at sys map v (s ∷ sites)) ≡ true
+      IsCopy sys depth site.owner sites → length (s ∷ sites) ≤ depth
+      → leq order (at sys map u sites) (at sys map v (s ∷ sites)) ≡ true
   pub leave : (n s u v : ℕ) (site : Site) (sites : List ℕ) → Stands sys lattice n (Leave s u v)
       → slice_get sys.sites s ≡ Some site →
-      IsCopy sys depth site.owner sites → length (s ∷ sites) ≤ depth → leq order (at sys map u (s ∷ sites)) (at sys map v sites) ≡ true
+      IsCopy sys depth site.owner sites → length (s ∷ sites) ≤ depth
+      → leq order (at sys map u (s ∷ sites)) (at sys map v sites) ≡ true
 
 -- the assignment is at or below a bound in each copy
 abbrev pub Keeps : System → ℕ → Order → ℕ → Assignment → ℕ → Type 0
-Keeps sys lattice order depth map n = (e v : ℕ) (sites : List ℕ) → Stands sys lattice n (Bound v lattice e) → IsCopy sys depth (owner_of sys v) sites →
+Keeps sys lattice order depth map n =
+    (e v : ℕ) (sites : List ℕ) → Stands sys lattice n (Bound v lattice e) → IsCopy sys depth (owner_of sys v) sites →
     leq order (at sys map v sites) e ≡ true
 
 -- The assignment meets the unfolding at a depth in a lattice.
@@ -60,7 +60,8 @@ IsAcceptedIn sys lattice order = (depth : ℕ) → (map : Assignment) × Meets s
 
 -- The program is accepted where that is so in every lattice of the file.
 abbrev pub IsAccepted : System → List Order → Type 0
-IsAccepted sys orders = (lattice : ℕ) (order : Order) → slice_get orders lattice ≡ Some order → IsAcceptedIn sys lattice order
+IsAccepted sys orders =
+    (lattice : ℕ) (order : Order) → slice_get orders lattice ≡ Some order → IsAcceptedIn sys lattice order
 
 -- A bound is exceeded where at some depth no assignment meets the unfolding from which every other bound was left out.
 pub record IsExceeded (sys : System) (lattice : ℕ) (order : Order) (n : ℕ) : Type 0 where

@@ -12,9 +12,9 @@ mod constraint;
 mod graph;
 mod owners;
 mod phase;
-mod place;
 mod proof;
 mod rows;
+mod step;
 #[cfg(test)]
 mod tests;
 
@@ -23,5 +23,5 @@ pub use conditions::{is_well_owned, names_elements};
 pub use constraint::{Constraint, Crossing, Limit, Link, Site};
 pub use graph::{FlowGraph, GraphFault, MOST_CONSTRAINTS};
 pub use phase::Phase;
-pub use place::{Path, Place, Seen};
 pub use proof::{BadStep, PathProof, PathStep, SubPath, Walk, Why};
+pub use step::{Path, Seen, StepInPath};

@@ -1,8 +1,9 @@
--- What it means that no rule fails at a place.
-use Rattle.std.proofs.Common.{◌≡◌, Bool, true, false, ◌||◌, Option, Some, None, refl, if◌then◌else◌}
+-- What it means that no rule fails at a step.
+use Rattle.std.proofs.Common.{◌≡◌, Bool, true, false, Option, Some, None, refl, if◌then◌else◌}
+use Rattle.std.proofs.lemmas.Bool.{or_parts}
 use Rattle.lattice_core.specs.Order.{Order}
 use Rattle.flow_graph.specs.declared.proof.Why.{Why}
-use Rattle.flow_graph.specs.declared.place.Place.{Place}
+use Rattle.flow_graph.specs.declared.step.StepInPath.{StepInPath}
 use Rattle.flow_graph.specs.System.{System}
 use Rattle.flow_graph.specs.PathRules.{rule_at, fails_b1, fails_b2, fails_b3, is_missing, is_foreign, is_outside, is_kept, is_unknown, is_headless, is_late_const, is_stray_bound, is_late_return, is_unmatched_in_sub, is_loose_sub, follows_bound}
 
@@ -10,11 +11,7 @@ passed : (a : Bool) (w : Why) (r : Option Why) → (if a then Some w else r) ≡
 passed true w r e = absurd cc
 passed false w r e = (refl, e)
 
-pub neither : (a b : Bool) → (a || b) ≡ false → (a ≡ false) × (b ≡ false)
-neither true b e = absurd cc
-neither false b e = (refl, e)
-
-pub record Clear (sys : System) (order : Order) (p : Place) : Type 0 where
+pub record Clear (sys : System) (order : Order) (p : StepInPath) : Type 0 where
   pub known : is_unknown p.step ≡ false
   pub headed : is_headless p ≡ false
   pub no_const : is_late_const p ≡ false
@@ -30,7 +27,7 @@ pub record Clear (sys : System) (order : Order) (p : Place) : Type 0 where
   pub carried : is_outside p.lattice p.step ≡ false
   pub over : is_kept order p.elem p.step ≡ false
 
-pub clear : (sys : System) (order : Order) (p : Place) → rule_at sys order p ≡ None → Clear sys order p
+pub clear : (sys : System) (order : Order) (p : StepInPath) → rule_at sys order p ≡ None → Clear sys order p
 unfolding rule_at fails_b1
 clear sys order p e =
     let r1 = passed (fails_b1 p) _ _ e in
@@ -40,13 +37,13 @@ clear sys order p e =
     let r5 = passed (is_foreign sys p.path p.step) _ _ r4.1 in
     let r6 = passed (is_outside p.lattice p.step) _ _ r5.1 in
     let r7 = passed (is_kept order p.elem p.step) _ _ r6.1 in
-    let b7 = neither _ (follows_bound p) r1.0 in
-    let b6 = neither _ (is_loose_sub p) b7.0 in
-    let b5 = neither _ (is_unmatched_in_sub p) b6.0 in
-    let b4 = neither _ (is_late_return p) b5.0 in
-    let b3 = neither _ (is_stray_bound p) b4.0 in
-    let b2 = neither _ (is_late_const p) b3.0 in
-    let b1 = neither (is_unknown p.step) (is_headless p) b2.0 in
+    let b7 = or_parts _ (follows_bound p) r1.0 in
+    let b6 = or_parts _ (is_loose_sub p) b7.0 in
+    let b5 = or_parts _ (is_unmatched_in_sub p) b6.0 in
+    let b4 = or_parts _ (is_late_return p) b5.0 in
+    let b3 = or_parts _ (is_stray_bound p) b4.0 in
+    let b2 = or_parts _ (is_late_const p) b3.0 in
+    let b1 = or_parts (is_unknown p.step) (is_headless p) b2.0 in
     record {
       known = b1.0;
       headed = b1.1;

@@ -7,7 +7,8 @@ use Rattle.flow_graph.specs.Paths.{Matches, stay, longer, Part, flow, group, Ret
 abbrev mutual
   pub depth_inside : (sys : System) (lattice f u v : ℕ) → Matches sys lattice f u v → ℕ
   depth_inside sys lattice f u v (stay _ _ own) = 0
-  depth_inside sys lattice f u v (longer _ _ x _ p part) = max (depth_inside sys lattice f u x p) (depth_of_part sys lattice f x v part)
+  depth_inside sys lattice f u v (longer _ _ x _ p part) =
+      max (depth_inside sys lattice f u x p) (depth_of_part sys lattice f x v part)
 
   pub depth_of_part : (sys : System) (lattice f x v : ℕ) → Part sys lattice f x v → ℕ
   depth_of_part sys lattice f x v (flow _ _ _ n st own) = 0
@@ -26,7 +27,8 @@ abbrev mutual
   depth_returning sys lattice e v (start _ n st) = 0
   depth_returning sys lattice e v (flows u _ n p st) = depth_returning sys lattice e u p
   depth_returning sys lattice e v (returns u _ s n p st) = depth_returning sys lattice e u p + 1
-  depth_returning sys lattice e v (grouped u a b _ s g n m p st q st2) = max (depth_returning sys lattice e u p) (depth_inside sys lattice g a b q + 1)
+  depth_returning sys lattice e v (grouped u a b _ s g n m p st q st2) =
+      max (depth_returning sys lattice e u p) (depth_inside sys lattice g a b q + 1)
   depth_returning sys lattice e v (anew _ c own) = depth_calling sys lattice e v c
 
   pub depth_calling : (sys : System) (lattice e v : ℕ) → Calling sys lattice e v → ℕ

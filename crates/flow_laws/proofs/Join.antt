@@ -1,23 +1,9 @@
 -- In a lattice each set of elements that has a test has a least element above it.
 use Rattle.std.proofs.Common.{◌≡◌, ℕ, zero, suc, ◌≤◌, ◌<◌, Bool, true, false, refl, sym, ◌∙◌, ap, subst, arith, inl, inr}
 use Rattle.lattice_core.specs.Order.{Order, size, leq, IsOrder, IsLattice, IsLeastUpper}
+use Rattle.lattice_core.proofs.Joins.{low_of}
 use Rattle.flow_laws.specs.Least.{IsLeastOver}
 use Rattle.flow_laws.proofs.Search.{last_or}
-
--- an element at or below each of the first k
-below_first : (order : Order) → IsLattice order → (k : ℕ) → k ≤ size order
-    → (b : ℕ) × (b < size order) × ((a : ℕ) → a < k → leq order b a ≡ true)
-below_first order lat zero fits = (0, lat.inhabited, λ a low. absurd (omega (arith, low)))
-below_first order lat (suc k) fits =
-    let before = below_first order lat k (omega (arith, fits)) in
-    let meet = lat.meets before.0 k before.1 (omega (arith, fits)) in (
-      meet.0,
-      (lat.ordered.inside meet.0 k meet.1.right).0,
-      λ a low. elim (last_or a k low) [
-        | inl same ↦ subst (λ x. leq order meet.0 x ≡ true) (sym same) meet.1.right
-        | inr less ↦ lat.ordered.through meet.0 before.0 a meet.1.left (before.2 a less)
-      ],
-    )
 
 -- the least element above those of the first k elements that are in the set
 record IsLeastOfFirst (order : Order) (set : ℕ → Bool) (k j : ℕ) : Type 0 where
@@ -25,6 +11,7 @@ record IsLeastOfFirst (order : Order) (set : ℕ → Bool) (k j : ℕ) : Type 0 
   upper : (a : ℕ) → a < k → set a ≡ true → leq order a j ≡ true
   least : (d : ℕ) → d < size order → ((a : ℕ) → a < k → set a ≡ true → leq order a d ≡ true) → leq order j d ≡ true
 
+-- the next element, where it is not in the set, leaves the least one above the first elements as it is
 without : (order : Order) (set : ℕ → Bool) (k j : ℕ) → set k ≡ false → IsLeastOfFirst order set k j
     → IsLeastOfFirst order set (suc k) j
 without order set k j out before = record {
@@ -36,6 +23,7 @@ without order set k j out before = record {
   least = λ d is above. before.least d is (λ a less in_set. above a (omega (arith, less)) in_set);
 }
 
+-- the next element, where it is in the set, is joined with the least one above the elements before it
 joined_with : (order : Order) (set : ℕ → Bool) (k j c : ℕ) → IsOrder order → set k ≡ true → IsLeastOfFirst order set k j
     → IsLeastUpper order j k c →
     IsLeastOfFirst order set (suc k) c
@@ -45,14 +33,22 @@ joined_with order set k j c ordered is before join = record {
     | inl same ↦ subst (λ x. leq order x c ≡ true) (sym same) join.right
     | inr less ↦ ordered.through a j c (before.upper a less in_set) join.left
   ];
-  least = λ d element above. join.least d (before.least d element (λ a less in_set. above a (omega (arith, less)) in_set)) (above k (omega arith) is);
+  least = λ d element above. join.least d
+      (before.least d element (λ a less in_set. above a (omega (arith, less)) in_set)) (above k (omega arith) is);
 }
 
+-- in a lattice the first elements of a set have a least one above them
 least_of_first : (order : Order) → IsLattice order → (set : ℕ → Bool) (k : ℕ) → k ≤ size order
     → (j : ℕ) × IsLeastOfFirst order set k j
 least_of_first order lat set zero fits =
-    let low = below_first order lat (size order) (omega arith) in
-    (low.0, record { element = low.1; upper = λ a less in_set. absurd (omega (arith, less)); least = λ d is above. low.2 d is })
+    let low = low_of order lat (size order) (omega arith) in (
+      low.0,
+      record {
+        element = low.1;
+        upper = λ a less in_set. absurd (omega (arith, less));
+        least = λ d is above. low.2 d is;
+      },
+    )
 least_of_first order lat set (suc k) fits = by_test (set k) refl (least_of_first order lat set k (omega (arith, fits)))
   where
     by_test : (t : Bool) → set k ≡ t → (j : ℕ) × IsLeastOfFirst order set k j

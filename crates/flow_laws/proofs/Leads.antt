@@ -38,29 +38,40 @@ mutual
 -- what leads anywhere is an element
 pub lead_element : (sys : System) (lattice : ℕ) (order : Order) → NamesElementsIn sys lattice order → (e v : ℕ)
     → Lead sys lattice e v → e < size order
-lead_element sys lattice order names e v (inl p) = let s = start_of_returning sys lattice e v p in names.const s.1 e s.0 s.2
-lead_element sys lattice order names e v (inr c) = let s = start_of_calling sys lattice e v c in names.const s.1 e s.0 s.2
+lead_element sys lattice order names e v (inl p) =
+    let s = start_of_returning sys lattice e v p in
+    names.const s.1 e s.0 s.2
+lead_element sys lattice order names e v (inr c) =
+    let s = start_of_calling sys lattice e v c in
+    names.const s.1 e s.0 s.2
 
+-- in a lattice with a test of which elements lead where, there is a solution
 pub solution_stands : SolutionStands
 solution_stands sys lattice order comes lat names is =
     let one : (v : ℕ) → (r : ℕ) × IsLeastOver order (λ e. Lead sys lattice e v) r =
-    λ v. least_over order (λ e. Lead sys lattice e v) (λ e. comes e v) lat (λ e l. ((is e v).1 l, lead_element sys lattice order names e v l)) (λ e t. (is e v).0 t) in
+    λ v. least_over order (λ e. Lead sys lattice e v) (λ e. comes e v) lat
+    (λ e l. ((is e v).1 l, lead_element sys lattice order names e v l)) (λ e t. (is e v).0 t) in
     (λ v. (one v).0, λ v. (one v).1)
 
 pub safe_keeps_bounds : SafeKeepsBounds
-safe_keeps_bounds sys lattice order solution names least safe n v b st = (least v).least b (names.bound n v b st) (λ e l. safe n v b e st l)
+safe_keeps_bounds sys lattice order solution names least safe n v b st =
+    (least v).least b (names.bound n v b st) (λ e l. safe n v b e st l)
 
 order_is : {x y : Order} → Some x ≡ Some y → x ≡ y
 order_is e = cc
 
+-- a system that names elements of each lattice does so in one of them
 pub names_in_each : NamesInEach
 names_in_each sys orders lattice order names there = record {
   const = λ n e v st.
-      let named = names.const n lattice e v (has_of sys lattice n (Const lattice e v) st) in subst (λ o. e < size o) (order_is (sym named.1 ∙ there)) named.2;
+      let named = names.const n lattice e v (has_of sys lattice n (Const lattice e v) st) in
+      subst (λ o. e < size o) (order_is (sym named.1 ∙ there)) named.2;
   bound = λ n v b st.
-      let named = names.bound n lattice b v (has_of sys lattice n (Bound v lattice b) st) in subst (λ o. b < size o) (order_is (sym named.1 ∙ there)) named.2;
+      let named = names.bound n lattice b v (has_of sys lattice n (Bound v lattice b) st) in
+      subst (λ o. b < size o) (order_is (sym named.1 ∙ there)) named.2;
 }
 
+-- the joins of the sets of all that leads to each variable are a solution
 pub joins_are_solution : JoinsAreSolution
 joins_are_solution sys lattice order sets solution names exact joins v = record {
   element = (joins v).element;

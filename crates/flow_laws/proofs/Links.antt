@@ -4,12 +4,10 @@ use Rattle.flow_graph.specs.declared.constraint.Constraint.{Constraint}
 use Rattle.flow_graph.specs.declared.constraint.Link.{Link}
 use Rattle.flow_graph.specs.declared.constraint.Link.TheVariants.{Bound, Enter}
 use Rattle.flow_graph.specs.System.{System, Has, Stands}
+use Rattle.flow_graph.proofs.Links.{some_constraint}
 
 pub has_of : (sys : System) (lattice n : ℕ) (link : Link) → Stands sys lattice n link → Has sys n link
 has_of sys lattice n link s = record { constraint = s.constraint; there = s.there; link_is = s.link_is }
-
-pub some_is : {x y : Constraint} → Some x ≡ Some y → x ≡ y
-some_is e = cc
 
 pub bound_var : {v x l k b d : ℕ} → Bound v l b ≡ Bound x k d → v ≡ x
 bound_var e = cc
@@ -31,10 +29,12 @@ enter_inner e = cc
 
 pub link_at : (sys : System) (lattice n : ℕ) (c : Constraint) (link : Link) → slice_get sys.constraints n ≡ Some c
     → Stands sys lattice n link → c.link ≡ link
-link_at sys lattice n c link is st = ap (λ (c : Constraint). c.link) (some_is (sym is ∙ st.there)) ∙ st.link_is
+link_at sys lattice n c link is st = ap (λ (c : Constraint). c.link) (some_constraint (sym is ∙ st.there)) ∙ st.link_is
 
+-- a constraint of one number is one bound, with one variable and one element
 pub one_bound : (sys : System) (lattice n v b x d : ℕ) → Stands sys lattice n (Bound v lattice b)
     → Stands sys lattice n (Bound x lattice d) → (v ≡ x) × (b ≡ d)
 one_bound sys lattice n v b x d one other =
-    let same : Bound v lattice b ≡ Bound x lattice d = sym one.link_is ∙ ap (λ (c : Constraint). c.link) (some_is (sym one.there ∙ other.there)) ∙ other.link_is in
+    let same : Bound v lattice b ≡ Bound x lattice d =
+    sym one.link_is ∙ ap (λ (c : Constraint). c.link) (some_constraint (sym one.there ∙ other.there)) ∙ other.link_is in
     (bound_var same, bound_elem same)

@@ -41,11 +41,13 @@ string_on : (sys : System) (s : ℕ) (outer inner : Owner) (sites : List ℕ) �
 string_on sys s outer inner [] h call = (outer, call)
 string_on sys s outer inner (t ∷ sites) h call = (outer, call, h)
 
+-- a copy of the caller with the site in front is one of the function called, where the depth has room
 pub copy_on : (sys : System) (depth : ℕ) (outer inner : Owner) (s : ℕ) (sites : List ℕ) → IsCopy sys depth outer sites
     → Calls sys s outer inner → length sites + 1 ≤ depth →
     IsCopy sys depth inner (s ∷ sites)
 copy_on sys depth outer inner s sites copy call fits =
-    let string = string_on sys s outer (Function call.it.target) sites (string_of sys depth outer sites copy) (subst (Calls sys s outer) call.inner_is call) in
+    let string = string_on sys s outer (Function call.it.target) sites (string_of sys depth outer sites copy)
+    (subst (Calls sys s outer) call.inner_is call) in
     rw call.inner_is (string, omega arith)
 
 -- no flow leads from one function to another
@@ -55,13 +57,15 @@ SameFunction one other = (f g : ℕ) → one ≡ Function f → other ≡ Functi
 -- to each copy of the variable behind a flow leads a copy of the one before
 pub flow_to : (sys : System) (depth : ℕ) (one other : Owner) (sites : List ℕ) → SameFunction one other
     → IsCopy sys depth other sites →
-    (from : List ℕ) × IsCopy sys depth (either one other) from × IsCopy sys depth one (seen_from one from) × (seen_from other from ≡ seen_from other sites)
+    (from : List ℕ) × IsCopy sys depth (either one other) from × IsCopy sys depth one (seen_from one from)
+    × (seen_from other from ≡ seen_from other sites)
     × (length (seen_from one from) ≤ length sites)
 flow_to sys depth Nobody Nobody sites same copy = (sites, copy, refl, refl, omega arith)
 flow_to sys depth Nobody (Function g) sites same copy = (sites, copy, refl, refl, omega arith)
 flow_to sys depth (Function f) Nobody sites same copy = ([], (tt, omega arith), (tt, omega arith), refl, omega arith)
 flow_to sys depth (Function f) (Function g) sites same copy =
-    let own : IsCopy sys depth (Function f) sites = subst (λ h. IsCopy sys depth (Function h) sites) (sym (same f g refl refl)) copy in
+    let own : IsCopy sys depth (Function f) sites =
+    subst (λ h. IsCopy sys depth (Function h) sites) (sym (same f g refl refl)) copy in
     (sites, own, own, refl, omega arith)
 
 -- and from each copy of the one before leads one to a copy of the variable behind
@@ -70,7 +74,9 @@ pub flow_from : (sys : System) (depth : ℕ) (one other : Owner) (sites : List �
     IsCopy sys depth other (seen_from other sites) × IsCopy sys depth (either one other) sites
 flow_from sys depth Nobody Nobody sites same copy = (refl, copy)
 flow_from sys depth Nobody (Function g) sites same copy =
-    let first : IsCopy sys depth (Function g) sites = subst (IsCopy sys depth (Function g)) (sym copy) (tt, omega arith) in (first, first)
+    let first : IsCopy sys depth (Function g) sites =
+    subst (IsCopy sys depth (Function g)) (sym copy) (tt, omega arith) in
+    (first, first)
 flow_from sys depth (Function f) Nobody sites same copy = (refl, copy)
 flow_from sys depth (Function f) (Function g) sites same copy =
     (subst (λ h. IsCopy sys depth (Function h) sites) (same f g refl refl) copy, copy)

@@ -1,29 +1,21 @@
--- What the tests of the rules say of a step at a place.
+-- What the tests of the rules say of a step with the steps around it.
 use Rattle.std.proofs.Common.{◌≡◌, ℕ, Bool, true, false, not, ◌&&◌, ◌||◌, ◌==◌, Option, Some, None, refl, sym, ◌∙◌, ap, ◌⊎◌, inl, inr}
 use Rattle.std.specs.Int.{bit_at}
-use Rattle.std.proofs.lemmas.Bool.{eqb-true}
+use Rattle.std.proofs.lemmas.Bool.{eqb-true, not-false}
 use Rattle.qual_base.specs.declared.places.Span.{Span}
 use Rattle.qual_base.specs.declared.places.Owner.TheVariants.{Function}
 use Rattle.flow_graph.specs.declared.constraint.Link.{Link}
 use Rattle.flow_graph.specs.declared.constraint.Link.TheVariants.{Le, Const, Bound, Enter, Leave}
-use Rattle.flow_graph.specs.declared.place.Seen.{Seen}
-use Rattle.flow_graph.specs.declared.place.Seen.TheVariants.{Edge, Through}
-use Rattle.flow_graph.specs.declared.place.Path.{Path}
-use Rattle.flow_graph.specs.declared.place.Place.{Place}
+use Rattle.flow_graph.specs.declared.step.Seen.{Seen}
+use Rattle.flow_graph.specs.declared.step.Seen.TheVariants.{Edge, Through}
+use Rattle.flow_graph.specs.declared.step.Path.{Path}
+use Rattle.flow_graph.specs.declared.step.StepInPath.{StepInPath}
 use Rattle.flow_graph.specs.System.{System, owner_of, IsInLattice}
 use Rattle.flow_graph.specs.PathRules.{begins, is_sub, leaves, is_main, is_there, holds_of, agree, differ, end_of, site_entered, begins_group, is_after_sub, closes, is_unmatched_enter, is_unmatched_leave, is_late_const, is_stray_bound, is_late_return, is_unmatched_in_sub, is_loose_sub, fails_b2, is_outside_link}
 use Rattle.flow_graph.specs.PathProofs.{is_nobodys, stays_in_call}
 
 pub eq_is : (a b : ℕ) → (a == b) ≡ true → a ≡ b
 eq_is a b e = eqb-true a b e
-
-pub not_false : (a : Bool) → not a ≡ false → a ≡ true
-not_false true e = refl
-not_false false e = absurd cc
-
-pub and_false : (a : Bool) → (a && false) ≡ false
-and_false true = refl
-and_false false = refl
 
 only_main : (a : Bool) → (not a && true) ≡ false → a ≡ true
 only_main true e = refl
@@ -34,26 +26,36 @@ agree_is a (Some b) e = ap (λ x. Some x) (sym (eq_is a b e))
 agree_is a None e = absurd cc
 
 differ_is : (a b : ℕ) → differ (Some a) (Some b) ≡ false → a ≡ b
-differ_is a b e = eq_is a b (not_false (a == b) e)
+differ_is a b e = eq_is a b (not-false (a == b) e)
 
 -- a step that is looked at as a constraint
 abbrev pub edge : Link → ℕ → Span → Seen
 edge l m p = Edge (record { link = l; lattices = m; span = p })
 
+-- a link that is found not to be outside a lattice is in it
 pub in_lattice : (lattice : ℕ) (l : Link) (m : ℕ) → is_outside_link lattice l m ≡ false → IsInLattice lattice l m
-in_lattice lattice (Le u v) m e = eq_is (bit_at m lattice) 1 (not_false _ e)
-in_lattice lattice (Const l e' v) m e = eq_is l lattice (not_false _ e)
-in_lattice lattice (Bound v l b) m e = eq_is l lattice (not_false _ e)
-in_lattice lattice (Enter s u v) m e = eq_is (bit_at m lattice) 1 (not_false _ e)
-in_lattice lattice (Leave s u v) m e = eq_is (bit_at m lattice) 1 (not_false _ e)
+in_lattice lattice (Le u v) m e = eq_is (bit_at m lattice) 1 (not-false _ e)
+in_lattice lattice (Const l e' v) m e = eq_is l lattice (not-false _ e)
+in_lattice lattice (Bound v l b) m e = eq_is l lattice (not-false _ e)
+in_lattice lattice (Enter s u v) m e = eq_is (bit_at m lattice) 1 (not-false _ e)
+in_lattice lattice (Leave s u v) m e = eq_is (bit_at m lattice) 1 (not-false _ e)
 
 pub owned_is : (sys : System) (v g : ℕ) → owner_of sys v ≡ Function g → is_nobodys (owner_of sys v) ≡ false
 owned_is sys v g is = rw is refl
 
 module _ (path : Path) (lattice elem : ℕ) where
-  abbrev pub here : Option Seen → Option Seen → Seen → Option Seen → Bool → Place
+  abbrev pub here : Option Seen → Option Seen → Seen → Option Seen → Bool → StepInPath
   here two one step next c =
-      record { path = path; two_before = two; one_before = one; step = step; one_after = next; in_call = c; lattice = lattice; elem = elem }
+      record {
+        path = path;
+        two_before = two;
+        one_before = one;
+        step = step;
+        one_after = next;
+        in_call = c;
+        lattice = lattice;
+        elem = elem;
+      }
 
   pub joins : (two one next : Option Seen) (step : Seen) (c : Bool) (u v : ℕ)
       → (end_of one ≡ Some v) ⊎ ((x : Seen) → Some step ≡ Some x → begins x ≡ Some v) →
@@ -71,7 +73,8 @@ module _ (path : Path) (lattice elem : ℕ) where
       → begins_group (edge (Enter s u v) m p) next ≡ false → holds_of one is_sub ≡ false →
       is_unmatched_enter (here two one (edge (Enter s u v) m p) next c) ≡ true
   unfolding is_unmatched_enter
-  unmatched two one next c s u v m p none plain = rw (none, not_after two one next (edge (Enter s u v) m p) c plain) refl
+  unmatched two one next c s u v m p none plain =
+      rw (none, not_after two one next (edge (Enter s u v) m p) c plain) refl
 
   pub not_unmatched : (two one next : Option Seen) (c : Bool) (s u v m : ℕ) (p : Span)
       → begins_group (edge (Enter s u v) m p) next ≡ true →
@@ -83,7 +86,8 @@ module _ (path : Path) (lattice elem : ℕ) where
       → agree (site_entered one) (Some s) ≡ false → holds_of one is_sub ≡ false →
       is_unmatched_leave (here two one (edge (Leave s u v) m p) next c) ≡ true
   unfolding is_unmatched_leave closes
-  unmatched_back two one next c s u v m p none plain = rw (none, not_after two one next (edge (Leave s u v) m p) c plain) refl
+  unmatched_back two one next c s u v m p none plain =
+      rw (none, not_after two one next (edge (Leave s u v) m p) c plain) refl
 
   pub main_enters : (two one next : Option Seen) (c : Bool) (step : Seen)
       → is_unmatched_enter (here two one step next c) ≡ true →
@@ -106,7 +110,7 @@ module _ (path : Path) (lattice elem : ℕ) where
   pub main_bound : (two one next : Option Seen) (c : Bool) (u l b m : ℕ) (p : Span)
       → is_stray_bound (here two one (edge (Bound u l b) m p) next c) ≡ false → is_main path ≡ true
   unfolding is_stray_bound
-  main_bound two one next c u l b m p none = not_false (is_main path) none
+  main_bound two one next c u l b m p none = not-false (is_main path) none
 
   pub no_start : (two one next : Option Seen) (c : Bool) (l e v m : ℕ) (p : Span)
       → (is_main path && not (is_there one)) ≡ false →
@@ -118,7 +122,9 @@ module _ (path : Path) (lattice elem : ℕ) where
       → holds_of one is_sub ≡ false →
       is_loose_sub (here two one (Through u v) next c) ≡ false → ⊥
   unfolding is_loose_sub
-  loose two one next c u v none plain in_group = let wrong : true ≡ false = rw (none, not_after two one next (Through u v) c plain) at in_group in cc
+  loose two one next c u v none plain in_group =
+      let wrong : true ≡ false = rw (none, not_after two one next (Through u v) c plain) at in_group in
+      cc
 
   -- which call stays open
   module _ (sys : System) (two one next : Option Seen) (c : Bool) where

@@ -99,7 +99,8 @@ module _ (sys : System) (lattice : ℕ) (owned : IsWellOwned sys) where
       by_owner (Function f) Nobody p q = anywhere sys lattice e v sites (ended q (leads sys lattice e u sites r))
       by_owner (Function f) (Function g) p q =
           let same : f ≡ g = same_function sys lattice owned n u v st f g p q in
-          along sys lattice e f u v sites r (one_part sys lattice f u v p (flow f u v n st (q ∙ ap (λ f. Function f) (sym same))))
+          along sys lattice e f u v sites r
+          (one_part sys lattice f u v p (flow f u v n st (q ∙ ap (λ f. Function f) (sym same))))
 
   pub left : (e s m b v : ℕ) (sites : List ℕ) → Stands sys lattice m (Leave s b v) → Reaches sys lattice e b (s ∷ sites)
       → Reaches sys lattice e v sites
@@ -107,7 +108,8 @@ module _ (sys : System) (lattice : ℕ) (owned : IsWellOwned sys) where
   left e s m b v sites st2 (inr (u, a, g, n, st, r, q)) = by_owner (owner_of sys u) refl
     where
       by_owner : (o : Owner) → owner_of sys u ≡ o → Reaches sys lattice e v sites
-      by_owner Nobody is = anywhere sys lattice e v sites (grouped u a b v s g n m (homed sys lattice e u sites is r) st q st2)
+      by_owner Nobody is =
+          anywhere sys lattice e v sites (grouped u a b v s g n m (homed sys lattice e u sites is r) st q st2)
       by_owner (Function f) is =
           let outer : owner_of sys v ≡ Function f = sym (same_outer sys lattice owned n m s u a b v st st2) ∙ is in
           along sys lattice e f u v sites r (one_part sys lattice f u v is (group f u a b v s g n m st q st2 outer))

@@ -28,19 +28,30 @@ module _ (sys : System) (lattice : ℕ) (order : Order) (solution : ℕ → ℕ)
       by_order : (c : Constraint) (v b : ℕ) → slice_get sys.constraints n ≡ Some c → c.link ≡ Bound v lattice b
           → (t : Bool) → leq order (solution v) b ≡ t → KeepsAt n ⊎ OverAt n
       by_order c v b is link_is true fits = inl (λ x d st.
-          let same : Bound v lattice b ≡ Bound x lattice d = sym link_is ∙ link_at sys lattice n c (Bound x lattice d) is st in
+          let same : Bound v lattice b ≡ Bound x lattice d =
+          sym link_is ∙ link_at sys lattice n c (Bound x lattice d) is st in
           rw (← bound_var same, ← bound_elem same) fits)
-      by_order c v b is link_is false over = inr (v, b, record { constraint = c; there = is; link_is = link_is; carried = refl }, over)
+      by_order c v b is link_is false over =
+          inr (v, b, record { constraint = c; there = is; link_is = link_is; carried = refl }, over)
 
       by_link : (c : Constraint) → slice_get sys.constraints n ≡ Some c → (link : Link) → c.link ≡ link
           → KeepsAt n ⊎ OverAt n
-      by_link c is (Le u v) link_is = inl (λ x d st. let wrong : Le u v ≡ Bound x lattice d = sym link_is ∙ link_at sys lattice n c (Bound x lattice d) is st in absurd cc)
-      by_link c is (Const l e v) link_is = inl (λ x d st. let wrong : Const l e v ≡ Bound x lattice d = sym link_is ∙ link_at sys lattice n c (Bound x lattice d) is st in absurd cc)
-      by_link c is (Enter s u v) link_is = inl (λ x d st. let wrong : Enter s u v ≡ Bound x lattice d = sym link_is ∙ link_at sys lattice n c (Bound x lattice d) is st in absurd cc)
-      by_link c is (Leave s u v) link_is = inl (λ x d st. let wrong : Leave s u v ≡ Bound x lattice d = sym link_is ∙ link_at sys lattice n c (Bound x lattice d) is st in absurd cc)
+      by_link c is (Le u v) link_is =
+          inl (λ x d st. let wrong : Le u v ≡ Bound x lattice d =
+          sym link_is ∙ link_at sys lattice n c (Bound x lattice d) is st in absurd cc)
+      by_link c is (Const l e v) link_is =
+          inl (λ x d st. let wrong : Const l e v ≡ Bound x lattice d =
+          sym link_is ∙ link_at sys lattice n c (Bound x lattice d) is st in absurd cc)
+      by_link c is (Enter s u v) link_is =
+          inl (λ x d st. let wrong : Enter s u v ≡ Bound x lattice d =
+          sym link_is ∙ link_at sys lattice n c (Bound x lattice d) is st in absurd cc)
+      by_link c is (Leave s u v) link_is =
+          inl (λ x d st. let wrong : Leave s u v ≡ Bound x lattice d =
+          sym link_is ∙ link_at sys lattice n c (Bound x lattice d) is st in absurd cc)
       by_link c is (Bound v l b) link_is = elim (eqb_tells l lattice) [
         | inl same ↦ by_order c v b is (link_is ∙ ap (λ l. Bound v l b) same.1) (leq order (solution v) b) refl
-        | inr other ↦ inl (λ x d st. absurd (other.1 (bound_lattice (sym link_is ∙ link_at sys lattice n c (Bound x lattice d) is st))))
+        | inr other ↦ inl (λ x d st.
+            absurd (other.1 (bound_lattice (sym link_is ∙ link_at sys lattice n c (Bound x lattice d) is st))))
       ]
 
       by_constraint : (o : Option Constraint) → slice_get sys.constraints n ≡ o → KeepsAt n ⊎ OverAt n
@@ -55,7 +66,8 @@ module _ (sys : System) (lattice : ℕ) (order : Order) (solution : ℕ → ℕ)
   ]
 
 module _ (sys : System) (orders : List Order)
-    (tells : InEach orders (λ lattice order. IsAcceptedIn sys lattice order ⊎ ((n : ℕ) × IsExceeded sys lattice order n))) where
+    (tells : InEach orders (λ lattice order. IsAcceptedIn sys lattice order
+    ⊎ ((n : ℕ) × IsExceeded sys lattice order n))) where
   abbrev AcceptedAt : ℕ → Type 0
   AcceptedAt lattice = (order : Order) → slice_get orders lattice ≡ Some order → IsAcceptedIn sys lattice order
 
@@ -79,4 +91,5 @@ module _ (sys : System) (orders : List Order)
   ]
 
 pub has_refutes : (sys : System) (orders : List Order) → HasExceeded sys orders → IsAccepted sys orders → ⊥
-has_refutes sys orders has accepted = exceeded_is_refuted sys has.lattice has.order has.number has.exceeded (accepted has.lattice has.order has.there)
+has_refutes sys orders has accepted =
+    exceeded_is_refuted sys has.lattice has.order has.number has.exceeded (accepted has.lattice has.order has.there)

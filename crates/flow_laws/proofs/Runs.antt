@@ -1,5 +1,6 @@
 -- What is known of whole paths no step of which fails.
 use Rattle.std.proofs.Common.{◌≡◌, ℕ, suc, ◌-◌, Bool, true, false, ◌==◌, List, [], ◌∷◌, length, Option, Some, None, option_map, refl, sym, ◌∙◌, ap, arith, slice_get, if◌then◌else◌}
+use Rattle.std.proofs.lemmas.Bool.{not-false}
 use Rattle.qual_base.specs.declared.places.Span.{Span}
 use Rattle.qual_base.specs.declared.places.Owner.TheVariants.{Nobody}
 use Rattle.lattice_core.specs.Order.{Order}
@@ -9,14 +10,14 @@ use Rattle.flow_graph.specs.declared.proof.PathStep.{PathStep}
 use Rattle.flow_graph.specs.declared.proof.PathStep.TheVariants.{Take, Sub as SubStep}
 use Rattle.flow_graph.specs.declared.proof.Why.{Why}
 use Rattle.flow_graph.specs.declared.proof.BadStep.{BadStep}
-use Rattle.flow_graph.specs.declared.place.Seen.{Seen}
-use Rattle.flow_graph.specs.declared.place.Seen.TheVariants.{Edge, Through, NoSub, NoEdge}
-use Rattle.flow_graph.specs.declared.place.Path.TheVariants.{Main, Sub}
+use Rattle.flow_graph.specs.declared.step.Seen.{Seen}
+use Rattle.flow_graph.specs.declared.step.Seen.TheVariants.{Edge, Through, NoSub, NoEdge}
+use Rattle.flow_graph.specs.declared.step.Path.TheVariants.{Main, Sub}
 use Rattle.flow_graph.specs.System.{System}
 use Rattle.flow_graph.specs.PathRules.{is_sub, is_bound, is_const, holds_of, is_headless, is_late_const, is_stray_bound, is_loose_sub, is_after_sub}
 use Rattle.flow_graph.specs.PathProofs.{fault_or, first_of, last_of, edge_at, through, span_of, look, or_else, ends_in_bound}
 use Rattle.flow_laws.proofs.Clear.{Clear}
-use Rattle.flow_laws.proofs.Places.{not_false, edge, here}
+use Rattle.flow_laws.proofs.Places.{edge, here}
 
 pub no_fault : (r : Option Why) (line : ℕ) (rest : Option BadStep) → fault_or r line rest ≡ None
     → (r ≡ None) × (rest ≡ None)
@@ -32,6 +33,7 @@ abbrev pub last_seen : (PathStep → Seen) → List Seen → List PathStep → O
 last_seen see before [] = first_of before
 last_seen see before (s ∷ steps) = last_seen see (see s ∷ before) steps
 
+-- the last of two steps and more is the last of those behind the first
 last_on : (s t : PathStep) (steps : List PathStep) → last_of (s ∷ t ∷ steps) ≡ last_of (t ∷ steps)
 last_on s t steps =
     let count : length (s ∷ t ∷ steps) - 1 ≡ suc (length (t ∷ steps) - 1) = omega arith in
@@ -86,13 +88,16 @@ module _ (sys : System) (order : Order) (lattice elem : ℕ) where
   pub look_edge : (earlier : List (List PathStep)) (s : PathStep) → is_sub (look sys earlier s) ≡ false
       → look sys earlier s ≡ edge_at sys s
   look_edge earlier (Take e line) no_sub = refl
-  look_edge earlier (SubStep number line) no_sub = let both : true ≡ false = sym (look_sub earlier number line) ∙ no_sub in absurd cc
+  look_edge earlier (SubStep number line) no_sub =
+      let both : true ≡ false = sym (look_sub earlier number line) ∙ no_sub in
+      absurd cc
 
 pub headed : (lattice elem : ℕ) (next : Option Seen) (step : Seen)
     → is_headless (here Main lattice elem None None step next false) ≡ false → is_const step ≡ true
 unfolding is_headless
-headed lattice elem next step e = not_false (is_const step) e
+headed lattice elem next step e = not-false (is_const step) e
 
+-- what a step names is never a sub-path and a constant
 both : (x : Seen) → is_sub x ≡ true → is_const x ≡ true → ⊥
 both (Edge c) sub const = cc
 both (Through u v) sub const = cc

@@ -3,6 +3,7 @@ use Rattle.std.proofs.Common.{◌≡◌, ℕ, Bool, true, false, not, ◌&&◌, 
 use Rattle.qual_base.specs.declared.places.Span.{Span}
 use Rattle.qual_base.specs.declared.places.Owner.{Owner}
 use Rattle.qual_base.specs.declared.places.Owner.TheVariants.{Nobody, Function}
+use Rattle.qual_base.proofs.Tests.{and_false}
 use Rattle.lattice_core.specs.Order.{Order, leq}
 use Rattle.flow_graph.specs.declared.constraint.Link.{Link}
 use Rattle.flow_graph.specs.declared.constraint.Link.TheVariants.{Le, Const, Bound, Enter, Leave}
@@ -10,17 +11,17 @@ use Rattle.flow_graph.specs.declared.proof.PathStep.{PathStep}
 use Rattle.flow_graph.specs.declared.proof.PathStep.TheVariants.{Take, Sub}
 use Rattle.flow_graph.specs.declared.proof.BadStep.{BadStep}
 use Rattle.flow_graph.specs.declared.proof.Why.{Why}
-use Rattle.flow_graph.specs.declared.place.Seen.{Seen}
-use Rattle.flow_graph.specs.declared.place.Seen.TheVariants.{Through}
-use Rattle.flow_graph.specs.declared.place.Path.{Path}
-use Rattle.flow_graph.specs.declared.place.Path.TheVariants.{Main, Sub as SubOf}
+use Rattle.flow_graph.specs.declared.step.Seen.{Seen}
+use Rattle.flow_graph.specs.declared.step.Seen.TheVariants.{Through}
+use Rattle.flow_graph.specs.declared.step.Path.{Path}
+use Rattle.flow_graph.specs.declared.step.Path.TheVariants.{Main, Sub as SubOf}
 use Rattle.flow_graph.specs.System.{System, owner_of, Has, Stands}
 use Rattle.flow_graph.specs.PathRules.{rule_at, is_main, begins_group, is_unmatched_enter, is_sub, agree, leaves, lacks, site_entered}
-use Rattle.flow_graph.specs.PathProofs.{first_failing, place, look, edge_or, first_of, second_of, fault_or, in_call_at, is_nobodys}
+use Rattle.flow_graph.specs.PathProofs.{first_failing, in_path, look, edge_or, first_of, second_of, fault_or, in_call_at, is_nobodys}
 use Rattle.flow_graph.specs.declared.phase.Phase.{Phase}
 use Rattle.flow_graph.specs.declared.phase.Phase.TheVariants.{First, Second}
 use Rattle.flow_graph.specs.Parts.{settled, Part, Flow, Empty, Full, Inside, Done, More, Onward, Goal, ToBound, ToVariable, Ends, There, Along, Back, Into}
-use Rattle.flow_laws.proofs.Places.{and_false, edge}
+use Rattle.flow_laws.proofs.Places.{edge}
 use Rattle.flow_laws.proofs.Passing.{Follows, placed, flow_passes, group_passes, sub_passes, left_passes, closed_passes, back_passes, into_passes, bound_passes}
 
 -- what the step of a standing constraint names
@@ -44,16 +45,20 @@ module _ (sys : System) (order : Order) (path : Path) (lattice elem : ℕ) where
     pub anew : is_nobodys (owner_of sys v) ≡ true → Quiet new
 
   follows_flow : (u v mask : ℕ) (span : Span) → Follows path (Some (edge (Le u v) mask span)) v
-  follows_flow u v mask span = record { unbound = refl; plain = refl; joined = rw (eq-eqb v v refl) refl; begun = and_false (is_main path) }
+  follows_flow u v mask span =
+      record { unbound = refl; plain = refl; joined = rw (eq-eqb v v refl) refl; begun = and_false (is_main path) }
 
   pub follows_leave : (s u v mask : ℕ) (span : Span) → Follows path (Some (edge (Leave s u v) mask span)) v
-  follows_leave s u v mask span = record { unbound = refl; plain = refl; joined = rw (eq-eqb v v refl) refl; begun = and_false (is_main path) }
+  follows_leave s u v mask span =
+      record { unbound = refl; plain = refl; joined = rw (eq-eqb v v refl) refl; begun = and_false (is_main path) }
 
   pub follows_enter : (s u v mask : ℕ) (span : Span) → Follows path (Some (edge (Enter s u v) mask span)) v
-  follows_enter s u v mask span = record { unbound = refl; plain = refl; joined = rw (eq-eqb v v refl) refl; begun = and_false (is_main path) }
+  follows_enter s u v mask span =
+      record { unbound = refl; plain = refl; joined = rw (eq-eqb v v refl) refl; begun = and_false (is_main path) }
 
   pub follows_const : (l e v mask : ℕ) (span : Span) → Follows path (Some (edge (Const l e v) mask span)) v
-  follows_const l e v mask span = record { unbound = refl; plain = refl; joined = rw (eq-eqb v v refl) refl; begun = and_false (is_main path) }
+  follows_const l e v mask span =
+      record { unbound = refl; plain = refl; joined = rw (eq-eqb v v refl) refl; begun = and_false (is_main path) }
 
   call_flow : (before after : List Seen) (u v mask : ℕ) (span : Span) →
       in_call_at sys path lattice elem (edge (Le u v) mask span ∷ before) after
@@ -63,13 +68,15 @@ module _ (sys : System) (order : Order) (path : Path) (lattice elem : ℕ) where
 
   pub call_leave : (before after : List Seen) (s u v mask : ℕ) (span : Span) →
       in_call_at sys path lattice elem (edge (Leave s u v) mask span ∷ before) after
-      ≡ (not (is_nobodys (owner_of sys v)) && in_call_at sys path lattice elem before (edge (Leave s u v) mask span ∷ after))
+      ≡ (not (is_nobodys (owner_of sys v))
+      && in_call_at sys path lattice elem before (edge (Leave s u v) mask span ∷ after))
   unfolding is_unmatched_enter
   call_leave before after s u v mask span = refl
 
   pub call_const : (before after : List Seen) (l e v mask : ℕ) (span : Span) →
       in_call_at sys path lattice elem (edge (Const l e v) mask span ∷ before) after
-      ≡ (not (is_nobodys (owner_of sys v)) && in_call_at sys path lattice elem before (edge (Const l e v) mask span ∷ after))
+      ≡ (not (is_nobodys (owner_of sys v))
+      && in_call_at sys path lattice elem before (edge (Const l e v) mask span ∷ after))
   unfolding is_unmatched_enter
   call_const before after l e v mask span = refl
 
@@ -82,7 +89,8 @@ module _ (sys : System) (order : Order) (path : Path) (lattice elem : ℕ) where
   call_group : (before after : List Seen) (next : Seen) (s u a mask : ℕ) (span : Span)
       → (is_sub next || agree (Some s) (leaves next)) ≡ true →
       in_call_at sys path lattice elem (edge (Enter s u a) mask span ∷ before) (next ∷ after)
-      ≡ (not (is_nobodys (owner_of sys a)) && in_call_at sys path lattice elem before (edge (Enter s u a) mask span ∷ next ∷ after))
+      ≡ (not (is_nobodys (owner_of sys a))
+      && in_call_at sys path lattice elem before (edge (Enter s u a) mask span ∷ next ∷ after))
   unfolding is_unmatched_enter begins_group
   call_group before after next s u a mask span begins = rw begins refl
 
@@ -102,7 +110,8 @@ module _ (sys : System) (order : Order) (path : Path) (lattice elem : ℕ) where
   }
 
   pub arrives_leave : (old before : List Seen) (s u v mask : ℕ) (span : Span) →
-      (Quiet old → (after : List Seen) → in_call_at sys path lattice elem before (edge (Leave s u v) mask span ∷ after) ≡ false) →
+      (Quiet old → (after : List Seen)
+      → in_call_at sys path lattice elem before (edge (Leave s u v) mask span ∷ after) ≡ false) →
       Arrives old (edge (Leave s u v) mask span ∷ before) v
   arrives_leave old before s u v mask span quiet = record {
     follows = follows_leave s u v mask span;
@@ -116,21 +125,26 @@ module _ (sys : System) (order : Order) (path : Path) (lattice elem : ℕ) where
     failing before steps = first_failing sys order path lattice elem (look sys subs) before steps
 
     abbrev pub rule_of : List Seen → Seen → List Seen → Option Why
-    rule_of before step after = rule_at sys order (place sys path lattice elem before step after)
+    rule_of before step after = rule_at sys order (in_path sys path lattice elem before step after)
 
     -- the steps behind one that fails no rule
     behind : (before : List Seen) (n : ℕ) (link : Link) (st : Stands sys lattice n link) (rest : List PathStep) →
         rule_of before (edge link st.constraint.lattices st.constraint.span) (map (look sys subs) rest) ≡ None →
-        failing (edge link st.constraint.lattices st.constraint.span ∷ before) rest ≡ None → failing before (Take n 0 ∷ rest) ≡ None
+        failing (edge link st.constraint.lattices st.constraint.span ∷ before) rest ≡ None
+        → failing before (Take n 0 ∷ rest) ≡ None
     behind before n link st rest passes more =
-        let Passes : Seen → Type 0 = λ s. fault_or (rule_of before s (map (look sys subs) rest)) 0 (failing (s ∷ before) rest) ≡ None in
+        let Passes : Seen → Type 0 =
+        λ s. fault_or (rule_of before s (map (look sys subs) rest)) 0 (failing (s ∷ before) rest) ≡ None in
         subst Passes (sym (seen sys lattice n link st))
-        (ap (λ why. fault_or why 0 (failing (edge link st.constraint.lattices st.constraint.span ∷ before) rest)) passes ∙ more)
+        (ap (λ why. fault_or why 0 (failing (edge link st.constraint.lattices st.constraint.span ∷ before) rest)) passes
+        ∙ more)
 
     behind_sub : (before : List Seen) (k a b : ℕ) (rest : List PathStep) → look sys subs (Sub k 0) ≡ Through a b →
-        rule_of before (Through a b) (map (look sys subs) rest) ≡ None → failing (Through a b ∷ before) rest ≡ None → failing before (Sub k 0 ∷ rest) ≡ None
+        rule_of before (Through a b) (map (look sys subs) rest) ≡ None → failing (Through a b ∷ before) rest ≡ None
+        → failing before (Sub k 0 ∷ rest) ≡ None
     behind_sub before k a b rest is passes more =
-        let Passes : Seen → Type 0 = λ s. fault_or (rule_of before s (map (look sys subs) rest)) 0 (failing (s ∷ before) rest) ≡ None in
+        let Passes : Seen → Type 0 =
+        λ s. fault_or (rule_of before s (map (look sys subs) rest)) 0 (failing (s ∷ before) rest) ≡ None in
         subst Passes (sym is) (ap (λ why. fault_or why 0 (failing (Through a b ∷ before) rest)) passes ∙ more)
 
     -- the steps behind a part whose steps fail no rule
@@ -140,7 +154,8 @@ module _ (sys : System) (order : Order) (path : Path) (lattice elem : ℕ) where
         → ((new : List Seen) → Arrives before new v → failing new rest ≡ None) →
         failing before (front ++ rest) ≡ None
     part_passes u v _ (Flow _ _ n st) first last before f rest more =
-        behind before n (Le u v) st rest (flow_passes sys order path lattice elem _ (first_of before) _ _ u v _ _ f first last st.carried)
+        behind before n (Le u v) st rest
+        (flow_passes sys order path lattice elem _ (first_of before) _ _ u v _ _ f first last st.carried)
         (more _ (arrives_flow before u v _ _))
     part_passes u v _ (Empty _ a _ s n m st ts) first last before f rest more =
         let enter = edge (Enter s u a) st.constraint.lattices st.constraint.span in
@@ -148,8 +163,10 @@ module _ (sys : System) (order : Order) (path : Path) (lattice elem : ℕ) where
         let begins : (is_sub leave || agree (Some s) (leaves leave)) ≡ true = eq-eqb s s refl in
         let Next : Seen → Type 0 = λ next. rule_of before enter (next ∷ map (look sys subs) rest) ≡ None in
         behind before n (Enter s u a) st (Take m 0 ∷ rest)
-        (subst Next (sym (seen sys lattice m (Leave s a v) ts)) (group_passes sys order path lattice elem _ (first_of before) leave _ s u a _ _ f first begins st.carried))
-        (behind (enter ∷ before) m (Leave s a v) ts rest (closed_passes sys order path lattice elem _ _ _ s u a v _ _ _ _ last ts.carried)
+        (subst Next (sym (seen sys lattice m (Leave s a v) ts))
+        (group_passes sys order path lattice elem _ (first_of before) leave _ s u a _ _ f first begins st.carried))
+        (behind (enter ∷ before) m (Leave s a v) ts rest
+        (closed_passes sys order path lattice elem _ _ _ s u a v _ _ _ _ last ts.carried)
         (more _ (arrives_leave before (enter ∷ before) s a v _ _
         (λ q after. call_group before after leave s u a _ _ begins ∙ quiet_and _ _ (q (enter ∷ leave ∷ after))))))
     part_passes u v _ (Full _ a b _ s n m k st is ts) first last before f rest more =
@@ -159,13 +176,17 @@ module _ (sys : System) (order : Order) (path : Path) (lattice elem : ℕ) where
         let Next : Seen → Type 0 = λ next. rule_of before enter (next ∷ map (look sys subs) (Take m 0 ∷ rest)) ≡ None in
         let Last : Seen → Type 0 = λ next. rule_of (enter ∷ before) through (next ∷ map (look sys subs) rest) ≡ None in
         behind before n (Enter s u a) st (Sub k 0 ∷ Take m 0 ∷ rest)
-        (subst Next (sym is) (group_passes sys order path lattice elem _ (first_of before) through _ s u a _ _ f first refl st.carried))
+        (subst Next (sym is)
+        (group_passes sys order path lattice elem _ (first_of before) through _ s u a _ _ f first refl st.carried))
         (behind_sub (enter ∷ before) k a b (Take m 0 ∷ rest) is
-        (subst Last (sym (seen sys lattice m (Leave s b v) ts)) (sub_passes sys order path lattice elem _ leave _ s u a b _ _))
-        (behind (through ∷ enter ∷ before) m (Leave s b v) ts rest (left_passes sys order path lattice elem _ _ s u a b v _ _ _ _ last ts.carried)
+        (subst Last (sym (seen sys lattice m (Leave s b v) ts))
+        (sub_passes sys order path lattice elem _ leave _ s u a b _ _))
+        (behind (through ∷ enter ∷ before) m (Leave s b v) ts rest
+        (left_passes sys order path lattice elem _ _ s u a b v _ _ _ _ last ts.carried)
         (more _ (arrives_leave before (through ∷ enter ∷ before) s b v _ _
         (λ q after. call_sub (enter ∷ before) (leave ∷ after) a b
-        ∙ quiet_and _ _ (call_group before (leave ∷ after) through s u a _ _ refl ∙ quiet_and _ _ (q (enter ∷ through ∷ leave ∷ after))))))))
+        ∙ quiet_and _ _ (call_group before (leave ∷ after) through s u a _ _ refl
+        ∙ quiet_and _ _ (q (enter ∷ through ∷ leave ∷ after))))))))
 
 -- parts inside one function
 module _ (sys : System) (order : Order) (lattice elem : ℕ) (subs : List (List PathStep)) (f : ℕ) where
@@ -177,7 +198,8 @@ module _ (sys : System) (order : Order) (lattice elem : ℕ) (subs : List (List 
       first_failing sys order (SubOf (Function f)) lattice elem (look sys subs) before steps ≡ None
   inside_passes u _ _ (Done _) before follows = refl
   inside_passes u v _ (More _ x _ front rest part from to more) before follows =
-      part_passes sys order (SubOf (Function f)) lattice elem subs u x front part (owned u from) (owned x to) before follows rest
+      part_passes sys order (SubOf (Function f)) lattice elem subs u x front part (owned u from)
+      (owned x to) before follows rest
       (λ new arrives. inside_passes x v rest more new arrives.follows)
 
   pub follows_none : (u : ℕ) → Follows (SubOf (Function f)) None u
@@ -224,18 +246,24 @@ module _ (sys : System) (order : Order) (lattice elem : ℕ) (subs : List (List 
   onward_passes _ over p u _ (There _ _) before f settles = refl
   onward_passes goal over p u _ (Along _ _ _ v front rest part more) before f settles =
       part_passes sys order Main lattice elem subs u v front part refl refl before f rest
-      (λ new arrives. onward_passes goal over (settled (owner_of sys v) p) v rest more new arrives.follows (settles_on before new p v settles arrives))
+      (λ new arrives. onward_passes goal over (settled (owner_of sys v) p) v rest more new arrives.follows
+      (settles_on before new p v settles arrives))
   onward_passes goal over _ u _ (Back _ _ v s n rest st more) before f settles =
       let back = edge (Leave s u v) st.constraint.lattices st.constraint.span in
       let after = map (look sys subs) rest in
-      let Passes : Bool → Type 0 = λ c. rule_at sys order (placed sys order Main lattice elem (second_of before) (first_of before) back (first_of after) c) ≡ None in
+      let Passes : Bool → Type 0 = λ c. rule_at sys order
+      (placed sys order Main lattice elem (second_of before) (first_of before) back (first_of after) c) ≡ None in
       let quiet = settles refl in
-      let arrives = arrives_leave sys order Main lattice elem before before s u v st.constraint.lattices st.constraint.span (λ q after. q (back ∷ after)) in
+      let arrives = arrives_leave sys order Main lattice elem before before s u v st.constraint.lattices
+      st.constraint.span (λ q after. q (back ∷ after)) in
       behind sys order Main lattice elem subs before n (Leave s u v) st rest
-      (subst Passes (sym (quiet (back ∷ after))) (back_passes sys order lattice elem _ (first_of before) _ s u v _ _ f st.carried))
-      (onward_passes goal over (settled (owner_of sys v) First) v rest more (back ∷ before) arrives.follows (settles_on before (back ∷ before) First v settles arrives))
+      (subst Passes (sym (quiet (back ∷ after)))
+      (back_passes sys order lattice elem _ (first_of before) _ s u v _ _ f st.carried))
+      (onward_passes goal over (settled (owner_of sys v) First) v rest more (back ∷ before) arrives.follows
+      (settles_on before (back ∷ before) First v settles arrives))
   onward_passes goal over p u _ (Into _ _ _ v s n rest st more) before f settles =
       let into = edge (Enter s u v) st.constraint.lattices st.constraint.span in
       behind sys order Main lattice elem subs before n (Enter s u v) st rest
       (into_passes sys order lattice elem _ (first_of before) _ _ s u v _ _ f st.carried)
-      (onward_passes goal over (settled (owner_of sys v) Second) v rest more (into ∷ before) (follows_enter sys order Main lattice elem s u v _ _) (settles_call before s u v _ _))
+      (onward_passes goal over (settled (owner_of sys v) Second) v rest more (into ∷ before)
+      (follows_enter sys order Main lattice elem s u v _ _) (settles_call before s u v _ _))

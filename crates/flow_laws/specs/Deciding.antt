@@ -9,8 +9,7 @@ use Rattle.flow_laws.specs.Least.{IsLeastOver}
 use Rattle.flow_laws.specs.Rejected.{HasExceeded, InEach}
 
 -- Tests of an element and a variable, whether a constant of the element leads there, with no call open and at all, and
--- of
--- two variables, whether a matched path leads from one to the other.
+-- of two variables, whether a matched path leads from one to the other.
 pub record PathTests : Type 0 where
   pub returned : ℕ → ℕ → Bool
   pub leads : ℕ → ℕ → Bool
@@ -28,8 +27,7 @@ abbrev pub ExceedsNone : System → ℕ → Order → Type 0
 ExceedsNone sys lattice order = (n : ℕ) → IsExceeded sys lattice order n → ⊥
 
 -- One assignment meets the unfolding at each depth, and is at or below the printed elements on all copies of all
--- variables
--- at once. Each variable has a least element over all that leads to it, which is the one printed.
+-- variables at once. Each variable has a least element over all that leads to it, which is the one printed.
 pub record IsSolved (sys : System) (lattice : ℕ) (order : Order) : Type 0 where
   pub map : Assignment
   pub meets : (depth : ℕ) → Meets sys lattice order depth map
@@ -38,8 +36,7 @@ pub record IsSolved (sys : System) (lattice : ℕ) (order : Order) : Type 0 wher
   pub printed : (v r : ℕ) → IsLeastOver order (λ e. Lead sys lattice e v) r → Printed sys lattice order v r
 
 -- What is decided of a lattice: an element that leads to a bound and is not at or below it exceeds the bound, and a
--- bound is
--- exceeded only where there is one; where no bound is, the lattice is solved.
+-- bound is exceeded only where there is one; where no bound is, the lattice is solved.
 pub record IsDecided (sys : System) (lattice : ℕ) (order : Order) : Type 0 where
   pub over : (n v b e : ℕ) → Stands sys lattice n (Bound v lattice b) → Lead sys lattice e v → leq order e b ≡ false
       → IsExceeded sys lattice order n
@@ -51,14 +48,19 @@ pub record IsDecided (sys : System) (lattice : ℕ) (order : Order) : Type 0 whe
 -- In a well owned system and one lattice, of which its constants and bounds name elements, tests that say exactly which
 -- constants lead where decide it.
 abbrev pub TestsSolve : Type 0
-TestsSolve = (sys : System) (lattice : ℕ) (order : Order) (tests : PathTests) → IsWellOwned sys → IsLattice order → NamesElementsIn sys lattice order →
+TestsSolve =
+    (sys : System) (lattice : ℕ) (order : Order) (tests : PathTests) → IsWellOwned sys → IsLattice order
+    → NamesElementsIn sys lattice order →
     AreExact sys lattice tests → IsDecided sys lattice order
 
 -- In a well owned system whose constants and bounds in each lattice name elements of it, and where tests say exactly
--- which
--- constants lead where, not accepted means exactly that some bound is exceeded; and a lattice where none is, is solved.
+-- which constants lead where, not accepted means exactly that some bound is exceeded; and a lattice where none is, is
+-- solved.
 abbrev pub TestsDecide : Type 0
-TestsDecide = (sys : System) (orders : List Order) (tests : ℕ → PathTests) → IsWellOwned sys → InEach orders (λ lattice order. IsLattice order) →
-    InEach orders (λ lattice order. NamesElementsIn sys lattice order) → InEach orders (λ lattice order. AreExact sys lattice (tests lattice)) →
+TestsDecide =
+    (sys : System) (orders : List Order) (tests : ℕ → PathTests) → IsWellOwned sys
+    → InEach orders (λ lattice order. IsLattice order) →
+    InEach orders (λ lattice order. NamesElementsIn sys lattice order)
+    → InEach orders (λ lattice order. AreExact sys lattice (tests lattice)) →
     ((IsAccepted sys orders → ⊥) ↔ HasExceeded sys orders)
     × InEach orders (λ lattice order. ExceedsNone sys lattice order → IsSolved sys lattice order)

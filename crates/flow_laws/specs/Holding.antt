@@ -37,10 +37,11 @@ pub record EndsInExceeded (sys : System) (orders : List Order) (main : List Path
   pub exceeded : IsExceeded sys lattice order number
 
 -- In a well owned system whose constants name elements, a path proof that holds leads from a constant to the bound that
--- it
--- ends in.
+-- it ends in.
 abbrev pub HoldsLeads : Type 0
-HoldsLeads = (sys : System) (orders : List Order) (proof : PathProof) → IsWellOwned sys → NamesElements sys orders → Holds sys orders proof →
+HoldsLeads =
+    (sys : System) (orders : List Order) (proof : PathProof) → IsWellOwned sys → NamesElements sys orders
+    → Holds sys orders proof →
     LeadsToBound sys orders proof.main.items
 
 -- And that bound is exceeded.
@@ -60,9 +61,11 @@ steps_in_proof proof = length proof.main.items + steps_in (steps_of proof.subs.i
 
 -- It is exceeded at a depth of at most that many.
 abbrev pub HoldsRefutesWithin : Type 0
-HoldsRefutesWithin = (sys : System) (orders : List Order) (proof : PathProof) → IsWellOwned sys → NamesElements sys orders →
+HoldsRefutesWithin =
+    (sys : System) (orders : List Order) (proof : PathProof) → IsWellOwned sys → NamesElements sys orders →
     InEach orders (λ lattice order. IsOrder order) →
-    Holds sys orders proof → (ends : EndsInExceeded sys orders proof.main.items) × (ends.exceeded.depth ≤ steps_in_proof proof)
+    Holds sys orders proof → (ends : EndsInExceeded sys orders proof.main.items)
+    × (ends.exceeded.depth ≤ steps_in_proof proof)
 
 -- in some lattice of the list no assignment meets the unfolding at a depth of at most this
 pub record IsUnmetWithin (sys : System) (orders : List Order) (most : ℕ) : Type 0 where

@@ -21,7 +21,8 @@ IsSolution sys lattice order solution = (v : ℕ) → IsLeastOver order (λ e. L
 
 -- each variable's element is at or below the variable's bounds
 abbrev pub KeepsBounds : System → ℕ → Order → (ℕ → ℕ) → Type 0
-KeepsBounds sys lattice order solution = (n v b : ℕ) → Stands sys lattice n (Bound v lattice b) → leq order (solution v) b ≡ true
+KeepsBounds sys lattice order solution =
+    (n v b : ℕ) → Stands sys lattice n (Bound v lattice b) → leq order (solution v) b ≡ true
 
 -- the element of a variable in a list, or another past its end
 abbrev pub element_of : List ℕ → ℕ → ℕ → ℕ

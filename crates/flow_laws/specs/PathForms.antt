@@ -29,7 +29,8 @@ pub data AreSubPaths (sys : System) (lattice : ℕ) : List (List PathStep) → T
 
 -- These are sub-paths, and the main path leads from a constant to a bound which the constant's element is not at or
 -- below.
-pub record LeadsOver (sys : System) (lattice : ℕ) (order : Order) (subs : List (List PathStep)) (main : List PathStep) : Type 0 where
+pub record LeadsOver (sys : System) (lattice : ℕ) (order : Order) (subs : List (List PathStep))
+    (main : List PathStep) : Type 0 where
   pub sub_paths : AreSubPaths sys lattice subs
   pub element : ℕ
   pub bound : ℕ
@@ -38,7 +39,8 @@ pub record LeadsOver (sys : System) (lattice : ℕ) (order : Order) (subs : List
 
 -- a path proof does so in a lattice
 abbrev pub ShowsIn : System → ℕ → Order → PathProof → Type 0
-ShowsIn sys lattice order proof = LeadsOver sys lattice order (map without_lines (steps_of proof.subs.items)) (without_lines proof.main.items)
+ShowsIn sys lattice order proof =
+    LeadsOver sys lattice order (map without_lines (steps_of proof.subs.items)) (without_lines proof.main.items)
 
 -- A path proof does so in a lattice of the list.
 pub record Shows (sys : System) (orders : List Order) (proof : PathProof) : Type 0 where
@@ -49,7 +51,8 @@ pub record Shows (sys : System) (orders : List Order) (proof : PathProof) : Type
 
 -- Sub-paths that all have steps are such.
 abbrev pub SubsAreSubPaths : Type 0
-SubsAreSubPaths = (sys : System) (lattice : ℕ) (subs : List (List PathStep)) → AreSubs sys lattice subs → AreSubPaths sys lattice subs
+SubsAreSubPaths =
+    (sys : System) (lattice : ℕ) (subs : List (List PathStep)) → AreSubs sys lattice subs → AreSubPaths sys lattice subs
 
 -- A path proof of this form in a lattice of the list holds.
 abbrev pub ShownHolds : Type 0
@@ -57,7 +60,9 @@ ShownHolds = (sys : System) (orders : List Order) (proof : PathProof) → Shows 
 
 -- Where the constants name elements of lattices, a path proof holds exactly where it has this form.
 abbrev pub HoldsExactly : Type 0
-HoldsExactly = (sys : System) (orders : List Order) (proof : PathProof) → NamesElements sys orders → Holds sys orders proof ↔ Shows sys orders proof
+HoldsExactly =
+    (sys : System) (orders : List Order) (proof : PathProof) → NamesElements sys orders
+    → Holds sys orders proof ↔ Shows sys orders proof
 
 -- It does so whatever they name, where in no lattice past the list anything is at or below anything.
 abbrev pub HoldsInSome : Type 0

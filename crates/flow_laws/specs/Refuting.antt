@@ -18,32 +18,40 @@ pub record Forces (sys : System) (lattice : ℕ) (order : Order) (e v : ℕ) : T
 
 -- In a well owned system each element that leads to a variable is forced on one of its copies.
 abbrev pub LeadsForce : Type 0
-LeadsForce = (sys : System) (lattice : ℕ) (order : Order) → IsWellOwned sys → IsOrder order → (e v : ℕ) → Lead sys lattice e v →
+LeadsForce =
+    (sys : System) (lattice : ℕ) (order : Order) → IsWellOwned sys → IsOrder order → (e v : ℕ) → Lead sys lattice e v →
     Forces sys lattice order e v
 
 -- A path from a constant to a bound that is not at or above it shows that the bound is exceeded.
 abbrev pub PathsRefute : Type 0
-PathsRefute = (sys : System) (lattice : ℕ) (order : Order) → IsWellOwned sys → IsOrder order → (e v n b : ℕ) → Lead sys lattice e v →
+PathsRefute =
+    (sys : System) (lattice : ℕ) (order : Order) → IsWellOwned sys → IsOrder order → (e v n b : ℕ)
+    → Lead sys lattice e v →
     Stands sys lattice n (Bound v lattice b) → leq order e b ≡ false → IsExceeded sys lattice order n
 
 -- A system with an exceeded bound is not accepted.
 abbrev pub ExceededIsRefuted : Type 0
-ExceededIsRefuted = (sys : System) (lattice : ℕ) (order : Order) (n : ℕ) → IsExceeded sys lattice order n → IsAcceptedIn sys lattice order → ⊥
+ExceededIsRefuted =
+    (sys : System) (lattice : ℕ) (order : Order) (n : ℕ) → IsExceeded sys lattice order n
+    → IsAcceptedIn sys lattice order → ⊥
 
 -- In an accepted well owned system no constant leads to a bound that it is not at or below.
 abbrev pub AcceptedKeepsPaths : Type 0
-AcceptedKeepsPaths = (sys : System) (lattice : ℕ) (order : Order) → IsWellOwned sys → IsOrder order → IsAcceptedIn sys lattice order →
+AcceptedKeepsPaths =
+    (sys : System) (lattice : ℕ) (order : Order) → IsWellOwned sys → IsOrder order → IsAcceptedIn sys lattice order →
     (e v n b : ℕ) → Lead sys lattice e v → Stands sys lattice n (Bound v lattice b) → leq order e b ≡ true
 
 -- A system whose constraints another one has too, with its sites and owners, is accepted where that one is.
 abbrev pub MoreIsHarder : Type 0
 MoreIsHarder = (sys : System) (more : List Constraint) (lattice : ℕ) (order : Order) →
-    ((n : ℕ) (link : Link) → Stands sys lattice n link → (m : ℕ) × Stands (record sys { constraints = more }) lattice m link) →
+    ((n : ℕ) (link : Link) → Stands sys lattice n link → (m : ℕ)
+    × Stands (record sys { constraints = more }) lattice m link) →
     IsAcceptedIn (record sys { constraints = more }) lattice order → IsAcceptedIn sys lattice order
 
 -- A system without a constant is accepted.
 abbrev pub NoConstantIsAccepted : Type 0
-NoConstantIsAccepted = (sys : System) (lattice : ℕ) (order : Order) → IsOrder order → NamesElementsIn sys lattice order →
+NoConstantIsAccepted =
+    (sys : System) (lattice : ℕ) (order : Order) → IsOrder order → NamesElementsIn sys lattice order →
     (bottom : ℕ) → bottom < size order → ((a : ℕ) → a < size order → leq order bottom a ≡ true) →
     ((n e v : ℕ) → Stands sys lattice n (Const lattice e v) → ⊥) → IsAcceptedIn sys lattice order
 
@@ -58,4 +66,6 @@ pub record MeetsAtOnce (sys : System) (lattice : ℕ) (order : Order) (one : ℕ
 
 -- What a type system without copies of functions accepts (Foster et al.) is accepted.
 abbrev pub OneCopyServes : Type 0
-OneCopyServes = (sys : System) (lattice : ℕ) (order : Order) (one : ℕ → ℕ) → MeetsAtOnce sys lattice order one → IsAcceptedIn sys lattice order
+OneCopyServes =
+    (sys : System) (lattice : ℕ) (order : Order) (one : ℕ → ℕ) → MeetsAtOnce sys lattice order one
+    → IsAcceptedIn sys lattice order

@@ -15,18 +15,22 @@ use Rattle.flow_query.specs.Ends.{AllEnds, AreEnds, AreStartsBelow, IsBound, IsC
 use Rattle.flow_query.specs.Searches.{IsNoConstant}
 use Rattle.flow_query.proofs.Listing.{link_there}
 
-module _ (sys : System) (lattice number : ℕ) (constraint : Constraint) (there : slice_get sys.constraints number ≡ Some constraint) where
+module _ (sys : System) (lattice number : ℕ) (constraint : Constraint)
+    (there : slice_get sys.constraints number ≡ Some constraint) where
   pub is_none_constant : IsNoConstant constraint.link lattice → IsConstant sys lattice number → ⊥
-  is_none_constant none own = none own.1 own.0 (link_there sys lattice number constraint there (Const lattice own.1 own.0) own.2)
+  is_none_constant none own =
+      none own.1 own.0 (link_there sys lattice number constraint there (Const lattice own.1 own.0) own.2)
 
   pub is_no_bound : IsNoBound constraint.link lattice → IsBound sys lattice number → ⊥
-  is_no_bound none own = none own.0 own.1 (link_there sys lattice number constraint there (Bound own.0 lattice own.1) own.2)
+  is_no_bound none own =
+      none own.0 own.1 (link_there sys lattice number constraint there (Bound own.0 lattice own.1) own.2)
 
 -- a constant of the lattice stands as its link
 pub const_stands : (sys : System) (lattice number : ℕ) (constraint : Constraint)
     → slice_get sys.constraints number ≡ Some constraint → (elem at : ℕ) →
     constraint.link ≡ Const lattice elem at → Stands sys lattice number (Const lattice elem at)
-const_stands sys lattice number constraint there elem at is = record { constraint = constraint; there = there; link_is = is; carried = refl }
+const_stands sys lattice number constraint there elem at is =
+    record { constraint = constraint; there = there; link_is = is; carried = refl }
 
 pub constant_low : (sys : System) (lattice number : ℕ) → IsConstant sys lattice number → number < length sys.constraints
 constant_low sys lattice number own = slice_get_within sys.constraints number own.2.constraint own.2.there
@@ -57,7 +61,9 @@ before_or_at (z ∷ xs) x (suc n) y is = elim (before_or_at xs x n y is) [
 pub no_ends : (sys : System) (ends : List Ends) → ends ≡ [] → AllEnds sys 0 ends
 no_ends sys ends none = record {
   count = ap (λ (xs : List Ends). length xs) none;
-  each = λ n own is. let there : slice_get [] n ≡ Some own = subst (λ (xs : List Ends). slice_get xs n ≡ Some own) none is in absurd cc;
+  each = λ n own is.
+      let there : slice_get [] n ≡ Some own = subst (λ (xs : List Ends). slice_get xs n ≡ Some own) none is in
+      absurd cc;
 }
 
 -- one lattice more
@@ -69,7 +75,8 @@ next_ends sys count old new x more own first = record {
       let same : length new ≡ length (old ++ x ∷ []) = ap (λ (xs : List Ends). length xs) more in
       let were = first.count in omega (arith, longer, same, were);
   each = λ n ends is.
-      let there : slice_get (old ++ x ∷ []) n ≡ Some ends = subst (λ (xs : List Ends). slice_get xs n ≡ Some ends) more is in
+      let there : slice_get (old ++ x ∷ []) n ≡ Some ends =
+      subst (λ (xs : List Ends). slice_get xs n ≡ Some ends) more is in
       elim (before_or_at old x n ends there) [
         | inl before ↦ first.each n ends before
         | inr last ↦
@@ -115,7 +122,8 @@ module _ (sys : System) (lattice number : ℕ) (starts : List Constant) where
   starts_push start low were own = record {
     only = λ other there. elim (Contains-append_cases starts (start ∷ []) other there) [
       | inl before ↦ were.only other before
-      | inr last ↦ subst (λ (c : Constant). IsStart sys lattice c) (only_start start other last) (record { low = low; number = number; stands = own })
+      | inr last ↦ subst (λ (c : Constant). IsStart sys lattice c) (only_start start other last)
+          (record { low = low; number = number; stands = own })
     ];
     all = λ n elem at under stands. elim (cases_lt n number) [
       | inl before ↦
@@ -125,8 +133,11 @@ module _ (sys : System) (lattice number : ℕ) (starts : List Constant) where
           let same : n ≡ number = omega (arith, under, late) in
           let At : ℕ → Type 0 = λ m. Stands sys lattice m (Const lattice elem at) in
           let here = subst At same stands in
-          let link = link_there sys lattice number own.constraint own.there (Const lattice elem at) here in
-          (start, Contains-append_right starts (start ∷ []) start (zero, omega arith, refl), at_is (sym own.link_is ∙ link))
+          let link = link_there sys lattice number own.constraint own.there (Const lattice elem at) here in (
+            start,
+            Contains-append_right starts (start ∷ []) start (zero, omega arith, refl),
+            at_is (sym own.link_is ∙ link),
+          )
     ];
   }
 
@@ -135,7 +146,8 @@ pub starts_all : (sys : System) (lattice n : ℕ) (starts ordered : List Constan
     → IsPermutation starts ordered →
     AreStartsBelow sys lattice n starts → AreStartsBelow sys lattice (length sys.constraints) ordered
 starts_all sys lattice n starts ordered most permuted were = record {
-  only = λ start there. were.only start (Contains-permutation ordered starts start (IsPermutation-sym starts ordered permuted) there);
+  only = λ start there.
+      were.only start (Contains-permutation ordered starts start (IsPermutation-sym starts ordered permuted) there);
   all = λ m elem at low stands.
       let there = were.all m elem at (omega (arith, low, most)) stands in
       (there.0, Contains-permutation starts ordered there.0 permuted there.1, there.2);

@@ -20,7 +20,9 @@ module _ (sys : System) (lattice : ℕ) where
   settles : (e v : ℕ) (owner : Owner) (p q : Phase) → owner_of sys v ≡ owner → q ≡ settled owner p → Led e p v
       → Led e q v
   settles e v Nobody First q is same led = let By : Phase → Type 0 = λ r. Led e r v in subst By (sym same) led
-  settles e v Nobody Second q is same led = let By : Phase → Type 0 = λ r. Led e r v in subst By (sym same) (anew v led is)
+  settles e v Nobody Second q is same led =
+      let By : Phase → Type 0 = λ r. Led e r v in
+      subst By (sym same) (anew v led is)
   settles e v (Function f) p q is same led = let By : Phase → Type 0 = λ r. Led e r v in subst By (sym same) led
 
   flows_in : (e u v n : ℕ) (p : Phase) → Led e p u → Stands sys lattice n (Le u v) → Led e p v
@@ -41,9 +43,11 @@ module _ (sys : System) (lattice : ℕ) where
     led_on v q (Enters p x y s m _ same goes stands) =
         settles e y (owner_of sys y) Second q refl same (calls_in e x y s m p (led_on x p goes) stands)
     led_on v q (Rounds First x a b y s g m k _ same goes enters matches leaves) =
-        settles e y (owner_of sys y) First q refl same (grouped x a b y s g m k (led_on x First goes) enters matches leaves)
+        settles e y (owner_of sys y) First q refl same
+        (grouped x a b y s g m k (led_on x First goes) enters matches leaves)
     led_on v q (Rounds Second x a b y s g m k _ same goes enters matches leaves) =
-        settles e y (owner_of sys y) Second q refl same (grouped_on x a b y s g m k (led_on x Second goes) enters matches leaves)
+        settles e y (owner_of sys y) Second q refl same
+        (grouped_on x a b y s g m k (led_on x Second goes) enters matches leaves)
 
     either_phase : (v : ℕ) (p : Phase) → Led e p v → Lead sys lattice e v
     either_phase v First led = inl led

@@ -97,7 +97,8 @@ for_one sys count vars all n var within is walks = record {
       let of = walks.each m own there in
       record {
         sound = of.sound;
-        done = λ k elem u stands v one. of.done k elem u stands v (subst (λ x. Contains vars x) (in_one var v one) (at_index vars n var within is));
+        done = λ k elem u stands v one.
+            of.done k elem u stands v (subst (λ x. Contains vars x) (in_one var v one) (at_index vars n var within is));
       };
 }
 
@@ -135,7 +136,8 @@ next_walks sys count lattice vars old new x named more own first = record {
       let same : length new ≡ length (old ++ x ∷ []) = ap (λ (xs : List Walks). length xs) more in
       let were = first.count in omega (arith, longer, same, were);
   each = λ n walks is.
-      let there : slice_get (old ++ x ∷ []) n ≡ Some walks = subst (λ (xs : List Walks). slice_get xs n ≡ Some walks) more is in
+      let there : slice_get (old ++ x ∷ []) n ≡ Some walks =
+      subst (λ (xs : List Walks). slice_get xs n ≡ Some walks) more is in
       elim (before_or_at old x n walks there) [
         | inl before ↦ first.each n walks before
         | inr last ↦
@@ -150,7 +152,9 @@ next_walks sys count lattice vars old new x named more own first = record {
 -- where the first so many are all
 pub all_taken : {X : Type 0} (P : X → Type 0) (xs : List X) (n : ℕ) → ((x : X) → Contains (take n xs) x → P x)
     → length xs ≤ n → (x : X) → Contains xs x → P x
-all_taken {X} P xs n each most x there = let all = take_all n xs most in each x (subst (λ (ys : List X). Contains ys x) (sym all) there)
+all_taken {X} P xs n each most x there =
+    let all = take_all n xs most in
+    each x (subst (λ (ys : List X). Contains ys x) (sym all) there)
 
 pub kept_on : (sys : System) (lattice : ℕ) (old new : List ℕ) (v : ℕ) → ((u : ℕ) → Contains old u → Contains new u)
     → IsKept sys lattice old v → IsKept sys lattice new v

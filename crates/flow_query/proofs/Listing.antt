@@ -14,15 +14,13 @@ use Rattle.flow_graph.specs.System.{System, IsNoBound, IsWellOwned, Stands}
 use Rattle.flow_graph.specs.Paths.{Lead}
 use Rattle.flow_graph.specs.PathProofs.{steps_of}
 use Rattle.flow_graph.specs.Leading.{GoesTo, Leads}
+use Rattle.flow_graph.proofs.Links.{some_constraint}
 use Rattle.walk_laws.specs.Laws.{LeadsAreWalks}
 use Rattle.annotate.specs.Texts.{Scene, line, proof_text, walk_text}
 use Rattle.flow_query.specs.Answers.{IsFrom, IsTo, IsWalkTo, FromText, NoFrom, OneFrom, ToText, NoTo, OneTo}
 use Rattle.flow_query.specs.Ends.{IsBound, IsConstant}
 use Rattle.flow_query.specs.Searches.{IsBoundAt, IsConstantAt, IsNoConstant}
 use Rattle.flow_query.proofs.Going.{constants_lead}
-
-some_is : {x y : Constraint} → Some x ≡ Some y → x ≡ y
-some_is e = cc
 
 const_is : {v w l m a b : ℕ} → Const l a v ≡ Const m b w → (a ≡ b) × (v ≡ w)
 const_is e = (cc, cc)
@@ -33,12 +31,15 @@ bound_is e = cc
 -- an element that is not in a set is in no set that is the same
 pub not_in : (is : Bool) (set elem other : ℕ) → (IsTrue is ↔ (bit_at set elem ≡ 1)) → set ≡ other → is ≡ false
     → bit_at other elem ≡ 1 → ⊥
-not_in is set elem other tells same out has = let in_it : is ≡ true = tells.1 (ap (λ s. bit_at s elem) same ∙ has) in absurd cc
+not_in is set elem other tells same out has =
+    let in_it : is ≡ true = tells.1 (ap (λ s. bit_at s elem) same ∙ has) in
+    absurd cc
 
 -- what a constraint is
-module _ (sys : System) (lattice number : ℕ) (constraint : Constraint) (there : slice_get sys.constraints number ≡ Some constraint) where
+module _ (sys : System) (lattice number : ℕ) (constraint : Constraint)
+    (there : slice_get sys.constraints number ≡ Some constraint) where
   pub link_there : (link : Link) → Stands sys lattice number link → constraint.link ≡ link
-  link_there link stands = ap (λ (c : Constraint). c.link) (some_is (sym there ∙ stands.there)) ∙ stands.link_is
+  link_there link stands = ap (λ (c : Constraint). c.link) (some_constraint (sym there ∙ stands.there)) ∙ stands.link_is
 
   pub constant_stands : (elem at : ℕ) → constraint.link ≡ Const lattice elem at → IsConstantAt sys lattice number at
   constant_stands elem at is = (elem, record { constraint = constraint; there = there; link_is = is; carried = refl })
@@ -56,7 +57,8 @@ module _ (sys : System) (lattice number : ℕ) (constraint : Constraint) (there 
       let same = const_is (sym (link_there (Const lattice from.elem from.at) from.constant) ∙ is) in
       let Of : ℕ → Type 0 = λ e. Lead sys lattice e var in
       never (subst Of same.0
-      (constants_lead sys lattice number from.elem from.at from.constant var ((law sys lattice from.at var owned).0 from.leads)))
+      (constants_lead sys lattice number from.elem from.at from.constant var
+      ((law sys lattice from.at var owned).0 from.leads)))
 
   pub no_bound : (var : ℕ) → IsNoBound constraint.link lattice → IsTo sys lattice var number → ⊥
   no_bound var none to = none to.at to.elem (link_there (Bound to.at lattice to.elem) to.bound)
@@ -89,7 +91,8 @@ module _ (sys : System) (lattice var number at : ℕ) (law : LeadsAreWalks) (own
 
   pub one_from : (scene : Scene) (walk : Walk) → IsConstantAt sys lattice number at → Leads sys lattice at var →
       IsWalkTo sys lattice at var walk →
-      FromText scene sys lattice var number (line (codes "from " ++ decimal number) ++ walk_text scene sys (Some number) None walk)
+      FromText scene sys lattice var number
+      (line (codes "from " ++ decimal number) ++ walk_text scene sys (Some number) None walk)
   one_from scene walk constant leads holds =
       let Is : List PathStep → Type 0 = λ steps. FromText scene sys lattice var number
       (line (codes "from " ++ decimal number) ++ proof_text scene sys (steps_of walk.subs.items) steps) in
@@ -99,7 +102,8 @@ module _ (sys : System) (lattice var number at : ℕ) (law : LeadsAreWalks) (own
 
   pub one_to : (scene : Scene) (walk : Walk) → IsBoundAt sys lattice number at → GoesTo sys lattice var at →
       IsWalkTo sys lattice var at walk →
-      ToText scene sys lattice var number (line (codes "to " ++ decimal number) ++ walk_text scene sys None (Some number) walk)
+      ToText scene sys lattice var number
+      (line (codes "to " ++ decimal number) ++ walk_text scene sys None (Some number) walk)
   one_to scene walk bound goes holds =
       let to : IsTo sys lattice var number =
       record { elem = bound.0; at = at; bound = bound.1; leads = (law sys lattice var at owned).1 goes } in
@@ -127,7 +131,8 @@ pub nothing_led : (sys : System) (lattice var set : ℕ) → LeadsAreWalks → I
     → ((e : ℕ) → Lead sys lattice e var → bit_at set e ≡ 1) → set ≡ 0 → (number : ℕ) →
     IsFrom sys lattice var number → ⊥
 nothing_led sys lattice var set law owned bits none number from =
-    let lead = constants_lead sys lattice number from.elem from.at from.constant var ((law sys lattice from.at var owned).0 from.leads) in
+    let lead = constants_lead sys lattice number from.elem from.at from.constant var
+    ((law sys lattice from.at var owned).0 from.leads) in
     let zero_is = bit_at-zero from.elem in
     let same : bit_at 0 from.elem ≡ 1 = ap (λ s. bit_at s from.elem) (sym none) ∙ bits from.elem lead in
     omega (arith, zero_is, same)

@@ -17,7 +17,8 @@ next_below Is n m text here same before next =
 -- one more variable
 pub next_var : (scene : Scene) (sys : System) (vars : List ℕ) (n var : ℕ) (text here : List ℕ) → n < length vars
     → var ≡ get_or vars n var →
-    VarsText scene sys (take n vars) text → VarText scene sys var here → VarsText scene sys (take (n + 1) vars) (text ++ here)
+    VarsText scene sys (take n vars) text → VarText scene sys var here
+    → VarsText scene sys (take (n + 1) vars) (text ++ here)
 next_var scene sys vars n var text here within is before next =
     let Of : List ℕ → Type 0 = λ taken. VarsText scene sys taken (text ++ here) in
     let step : suc n ≡ n + 1 = omega arith in
@@ -40,16 +41,20 @@ no_name scene sys name (var ∷ vars) is none = absurd (omega (arith, none))
 -- the same, as the text is written
 pub named_as : (scene : Scene) (sys : System) (name vars lent begun after told : List ℕ) → vars ≡ asked_in scene name
     → (vars ≡ [] → ⊥) →
-    lent ≡ vars → VarsText scene sys lent told → begun ≡ line (codes "who") → after ≡ begun ++ told → IsWho scene sys name (Some after)
+    lent ≡ vars → VarsText scene sys lent told → begun ≡ line (codes "who") → after ≡ begun ++ told
+    → IsWho scene sys name (Some after)
 named_as scene sys name vars lent begun after told is some same each begins ends =
     let Of : List ℕ → Type 0 = λ vs. VarsText scene sys vs told in
     let Is : List ℕ → Type 0 = λ t. IsWho scene sys name (Some t) in
-    subst Is (sym (ends ∙ ap (λ (t : List ℕ). t ++ told) begins)) (named scene sys name vars told is some (subst Of same each))
+    subst Is (sym (ends ∙ ap (λ (t : List ℕ). t ++ told) begins))
+    (named scene sys name vars told is some (subst Of same each))
 
 -- what is written of a kind is of another kind
 pub as_some : {lent : Lent} {a b : List ℕ} {Is : Scene → List ℕ → Type 0} (Has : Scene → List ℕ → Type 0)
     → WritesSome lent a b Is →
     ((s : Scene) → Shows lent s → (text : List ℕ) → Is s text → Has s text) → WritesSome lent a b Has
 as_some Has one has = record {
-  part = λ s shows. let own = one.part s shows in record { text = own.text; added = own.added; is = has s shows own.text own.is };
+  part = λ s shows.
+      let own = one.part s shows in
+      record { text = own.text; added = own.added; is = has s shows own.text own.is };
 }

@@ -6,6 +6,7 @@ use Rattle.std.specs.List.{Contains}
 use Rattle.std.proofs.lemmas.Bool.{cases_lt}
 use Rattle.std.proofs.lemmas.List.Elements.{Contains-append_cases, Contains-append_left, Contains-append_right}
 use Rattle.std.proofs.lemmas.Option.{slice_get_within, slice_get-get_or}
+use Rattle.qual_base.proofs.Tests.{some_number}
 use Rattle.flow_graph.specs.Index.{AreThose}
 use Rattle.flow_query.specs.Answers.{EachBelow, NoneBelow, NextBelow}
 use Rattle.flow_query.specs.Ends.{AreThoseBelow}
@@ -17,12 +18,10 @@ only_one : (x n : ℕ) → Contains (x ∷ []) n → x ≡ n
 only_one x n (zero, within, is) = is
 only_one x n (suc i, within, is) = absurd (omega (arith, within))
 
-some_is : {x y : ℕ} → Some x ≡ Some y → x ≡ y
-some_is e = cc
-
 contains_at : (numbers : List ℕ) (i n : ℕ) → slice_get numbers i ≡ Some n → Contains numbers n
 contains_at numbers i n is =
-    let within = slice_get_within numbers i n is in (i, within, some_is (sym (slice_get-get_or numbers i n within) ∙ is))
+    let within = slice_get_within numbers i n is in
+    (i, within, some_number (sym (slice_get-get_or numbers i n within) ∙ is))
 
 pub at_place : (numbers : List ℕ) (i n : ℕ) → i < length numbers → n ≡ get_or numbers i n → slice_get numbers i ≡ Some n
 at_place numbers i n within is = slice_get-get_or numbers i n within ∙ ap (λ (k : ℕ). Some k) (sym is)
@@ -30,7 +29,7 @@ at_place numbers i n within is = slice_get-get_or numbers i n within ∙ ap (λ 
 -- an entry of numbers in a list with one more at its end was in the list, or is that one at its length
 push_cases : (numbers : List ℕ) (x i n : ℕ) → slice_get (numbers ++ x ∷ []) i ≡ Some n
     → (slice_get numbers i ≡ Some n) ⊎ ((i ≡ length numbers) × (x ≡ n))
-push_cases [] x zero n is = inr (refl, some_is is)
+push_cases [] x zero n is = inr (refl, some_number is)
 push_cases [] x (suc i) n is = absurd cc
 push_cases (y ∷ numbers) x zero n is = inl is
 push_cases (y ∷ numbers) x (suc i) n is = elim (push_cases numbers x i n is) [
@@ -135,7 +134,8 @@ module _ (Is : ℕ → List ℕ → Type 0) where
   pub none_below : (most : ℕ) → ((m : ℕ) → Is m []) → EachBelow Is most []
   none_below most none = skip_to [] 0 most (omega arith) (λ m from below. none m) NoneBelow
 
-  module _ (Has : ℕ → Type 0) (numbers : List ℕ) (those : AreThose Has numbers) (none : (m : ℕ) → (Has m → ⊥) → Is m []) where
+  module _ (Has : ℕ → Type 0) (numbers : List ℕ) (those : AreThose Has numbers)
+      (none : (m : ℕ) → (Has m → ⊥) → Is m []) where
     -- a number of the list stands behind those before its place
     behind : (place n : ℕ) → slice_get numbers place ≡ Some n → from_place numbers place ≤ n
     behind zero n is = omega arith
@@ -158,7 +158,7 @@ module _ (Is : ℕ → List ℕ → Type 0) where
           | inr late ↦
               let same : i ≡ place = omega (arith, before, late) in
               let At : ℕ → Type 0 = λ k. slice_get numbers k ≡ Some m in
-              let one : m ≡ get_or numbers place 0 = some_is (sym (subst At same is) ∙ last) in
+              let one : m ≡ get_or numbers place 0 = some_number (sym (subst At same is) ∙ last) in
               omega (arith, one, from)
         ]
 
@@ -175,7 +175,7 @@ module _ (Is : ℕ → List ℕ → Type 0) where
             | inr early ↦
                 let same : there.0 ≡ place = omega (arith, late, early) in
                 let At : ℕ → Type 0 = λ k. slice_get numbers k ≡ Some m in
-                let one : m ≡ n = some_is (sym (subst At same at) ∙ is) in
+                let one : m ≡ n = some_number (sym (subst At same at) ∙ is) in
                 omega (arith, one, below)
           ]
         ]
@@ -186,10 +186,11 @@ module _ (Is : ℕ → List ℕ → Type 0) where
         EachBelow Is (from_place numbers (place + 1)) (text ++ here)
     next_of place n text here within is each next =
         let at = at_place numbers place n within is in
-        let skipped = skip_to text (from_place numbers place) n (behind place n at) (λ m from below. none m (between place n m at from below)) each in
+        let skipped = skip_to text (from_place numbers place) n (behind place n at)
+        (λ m from below. none m (between place n m at from below)) each in
         let At : ℕ → Type 0 = λ m. EachBelow Is m (text ++ here) in
         let Place : ℕ → Type 0 = λ k. EachBelow Is (from_place numbers k) (text ++ here) in
-        let own : n ≡ get_or numbers place 0 = some_is (sym at ∙ slice_get-get_or numbers place 0 within) in
+        let own : n ≡ get_or numbers place 0 = some_number (sym at ∙ slice_get-get_or numbers place 0 within) in
         let step : suc place ≡ place + 1 = omega arith in
         subst Place step (subst At (ap (λ (k : ℕ). k + 1) own) (NextBelow n text here skipped next))
 
@@ -201,13 +202,15 @@ module _ (Is : ℕ → List ℕ → Type 0) where
         (λ m from below. none m (λ has.
         let there = those.all m has in
         let within = there.1 in
-        not_before place (omega (arith, end)) m from there.0 (omega (arith, within, end)) (at_place numbers there.0 m within (sym there.2)))) each
+        not_before place (omega (arith, end)) m from there.0 (omega (arith, within, end))
+        (at_place numbers there.0 m within (sym there.2)))) each
       where
         low : (k : ℕ) → k ≡ length numbers → from_place numbers k ≤ most
         low zero at = omega arith
         low (suc k) at =
             let last = slice_get-get_or numbers k 0 (omega (arith, at)) in
-            let own = few (get_or numbers k 0) (those.only (get_or numbers k 0) (contains_at numbers k (get_or numbers k 0) last)) in
+            let own = few (get_or numbers k 0)
+            (those.only (get_or numbers k 0) (contains_at numbers k (get_or numbers k 0) last)) in
             omega (arith, own)
 
 -- what each number of a list has

@@ -22,9 +22,11 @@ if_ok (Err e) p f = tt
 pub reach_of : (section : Section) (search : Search) → IsSearchIn section search
     → IsReachOf section.graph.now section.lattice search.start search.reach
 reach_of section search found =
-    let At : ℕ → Type 0 = λ l. IsReachOf section.graph.now l search.start search.reach in subst At found.lattice_is found.is
+    let At : ℕ → Type 0 = λ l. IsReachOf section.graph.now l search.start search.reach in
+    subst At found.lattice_is found.is
 
-module _ (section : Section) (search : Search) (to : ℕ) (is : IsSection section) (in_it : IsSearchIn section search) where
+module _ (section : Section) (search : Search) (to : ℕ) (is : IsSection section)
+    (in_it : IsSearchIn section search) where
   abbrev found : IsReachOf section.graph.now section.lattice search.start search.reach
   found = reach_of section search in_it
 
@@ -50,7 +52,8 @@ module _ (section : Section) (search : Search) (to : ℕ) (is : IsSection sectio
       let By : ℕ → Type 0 = λ l. IsWalkShown section.graph.now l search.start to walk in
       let here = subst By found.lattice_is (shown search.start (subst At (sym found.lattice_is) found)) in
       record {
-        holds = law section.graph.now section.lattice search.start to walk.end (steps_of walk.subs.items) walk.steps.items
+        holds =
+            law section.graph.now section.lattice search.start to walk.end (steps_of walk.subs.items) walk.steps.items
             here.subs here.walk;
         apart = here.apart;
       }

@@ -1,6 +1,5 @@
 -- Who reaches a name: for each variable where it is declared, the constants that lead to it and the bounds that it
--- leads to, each with
--- a walk.
+-- leads to, each with a walk.
 use Rattle.std.specs.Prelude.{◌≡◌, ℕ, ◌+◌, Bool, false, List, [], ◌∷◌, ◌++◌, length, slice_get, Option, Some, None, codes}
 use Rattle.std.specs.List.{filter}
 use Rattle.std.specs.Fmt.{decimal}
@@ -40,12 +39,14 @@ pub record IsWalkTo (sys : System) (lattice from to : ℕ) (walk : Walk) : Type 
 -- the lines of a constant and of a walk from it
 abbrev pub from_text : Scene → System → ℕ → Walk → List ℕ
 from_text scene sys number walk =
-    line (codes "from " ++ decimal number) ++ proof_text scene sys (steps_of walk.subs.items) (Take number 0 ∷ walk.steps.items)
+    line (codes "from " ++ decimal number)
+    ++ proof_text scene sys (steps_of walk.subs.items) (Take number 0 ∷ walk.steps.items)
 
 -- the lines of a walk to a bound and of that
 abbrev pub to_text : Scene → System → ℕ → Walk → List ℕ
 to_text scene sys number walk =
-    line (codes "to " ++ decimal number) ++ proof_text scene sys (steps_of walk.subs.items) (walk.steps.items ++ Take number 0 ∷ [])
+    line (codes "to " ++ decimal number)
+    ++ proof_text scene sys (steps_of walk.subs.items) (walk.steps.items ++ Take number 0 ∷ [])
 
 -- a constraint is a constant of the lattice that leads to the variable
 pub record IsFrom (sys : System) (lattice var number : ℕ) : Type 0 where

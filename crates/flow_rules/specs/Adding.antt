@@ -15,15 +15,15 @@ use Rattle.flow_rules.specs.declared.arrow.Arrow.TheVariants.{Flow, Cross}
 -- links in these lattices, from these tokens
 abbrev pub marked : ℕ → Span → List Link → List Constraint
 marked lattices span [] = []
-marked lattices span (link ∷ links) = record { link = link; lattices = lattices; span = span } ∷ marked lattices span links
+marked lattices span (link ∷ links) =
+    record { link = link; lattices = lattices; span = span } ∷ marked lattices span links
 
 -- the system with a list of constraints behind those that it has
 abbrev pub with : System → List Constraint → System
 with sys list = record sys { constraints = sys.constraints ++ list }
 
 -- An adding that stopped: some constraints of the list were added, from the first on, and the next one was refused;
--- TooMany
--- says that there was no place for it.
+-- TooMany says that there was no place for it.
 pub record Stops (old new : System) (fault : GraphFault) (list : List Constraint) : Type 0 where
   pub added : ℕ
   pub some_left : added < length list

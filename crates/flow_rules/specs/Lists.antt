@@ -1,6 +1,5 @@
 -- Flow lists: what one skeleton that flows into another gives (Foster et al. 2006, subtyping of qualified types; Rehof
--- and
--- Fähndrich 2001 for the calls and returns of a site).
+-- and Fähndrich 2001 for the calls and returns of a site).
 --
 -- `forward` tells which of the two skeletons goes into the other: `flow arrow true a b` is the list of a into b, and
 -- `flow arrow false a b` that of b into a, since parameters go the other way. So each list is read off both skeletons
@@ -13,8 +12,7 @@ use Rattle.flow_rules.specs.declared.arrow.Arrow.{Arrow}
 use Rattle.flow_rules.specs.declared.arrow.Arrow.TheVariants.{Flow, Cross}
 
 -- The pair of u, a variable of the first skeleton, and v, one of the second. Between a function's signature and an
--- instance
--- of it, a pair from the signature is a return of the site and a pair from the instance is a call.
+-- instance of it, a pair from the signature is a return of the site and a pair from the instance is a call.
 abbrev pub pair : Arrow → Bool → ℕ → ℕ → List Link
 pair Flow true u v = Le u v ∷ []
 pair Flow false u v = Le v u ∷ []
@@ -77,11 +75,13 @@ equal_uneven arrow forward a b = both arrow forward (root a) (root b) ++ collaps
 
 -- two skeletons, made equal
 abbrev mutual
+  -- the links that make two skeletons equal
   pub equal : Arrow → Bool → Skel → Skel → List Link
   equal arrow forward (flat u k) (flat v l) = both arrow forward u v
   equal arrow forward (ref u a) (ref v b) = both arrow forward u v ++ equal arrow forward a b
   equal arrow forward (fun u ps r e) (fun v qs s f) = both arrow forward u v
-      ++ (equals arrow forward ps qs ++ (extra arrow forward ps e qs f ++ (equal arrow forward r s ++ both_some arrow forward e f)))
+      ++ (equals arrow forward ps qs
+      ++ (extra arrow forward ps e qs f ++ (equal arrow forward r s ++ both_some arrow forward e f)))
   equal arrow forward (flat u k) (ref v b) = equal_uneven arrow forward (flat u k) (ref v b)
   equal arrow forward (flat u k) (fun v qs s f) = equal_uneven arrow forward (flat u k) (fun v qs s f)
   equal arrow forward (ref u a) (flat v l) = equal_uneven arrow forward (ref u a) (flat v l)
@@ -100,14 +100,15 @@ abbrev pub flow_uneven : Arrow → Bool → Skel → Skel → List Link
 flow_uneven arrow forward a b = pair arrow forward (root a) (root b) ++ collapsed arrow forward a b
 
 -- A skeleton into another: what references hold is equal, since it may be read and written; parameters go the other
--- way, and
--- so do further arguments.
+-- way, and so do further arguments.
 abbrev mutual
+  -- the links by which a skeleton flows into another
   pub flow : Arrow → Bool → Skel → Skel → List Link
   flow arrow forward (flat u k) (flat v l) = pair arrow forward u v
   flow arrow forward (ref u a) (ref v b) = pair arrow forward u v ++ equal arrow forward a b
   flow arrow forward (fun u ps r e) (fun v qs s f) = pair arrow forward u v
-      ++ (flows arrow (not forward) ps qs ++ (extra arrow forward ps e qs f ++ (flow arrow forward r s ++ pair_some arrow (not forward) e f)))
+      ++ (flows arrow (not forward) ps qs
+      ++ (extra arrow forward ps e qs f ++ (flow arrow forward r s ++ pair_some arrow (not forward) e f)))
   flow arrow forward (flat u k) (ref v b) = flow_uneven arrow forward (flat u k) (ref v b)
   flow arrow forward (flat u k) (fun v qs s f) = flow_uneven arrow forward (flat u k) (fun v qs s f)
   flow arrow forward (ref u a) (flat v l) = flow_uneven arrow forward (ref u a) (flat v l)
@@ -122,8 +123,7 @@ abbrev mutual
   flows arrow forward (more_skels p ps) (more_skels q qs) = flow arrow forward p q ++ flows arrow forward ps qs
 
 -- The signature of a function, a reference to it, and an instance at a site: the roots, then what they refer to. For
--- other
--- skeletons the roots alone.
+-- other skeletons the roots alone.
 abbrev pub cross_by : Arrow → Skel → Skel → List Link
 cross_by arrow (ref u a) (ref v b) = pair arrow true u v ++ flow arrow true a b
 cross_by arrow (ref u a) (flat v l) = pair arrow true u v

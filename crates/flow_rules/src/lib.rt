@@ -10,8 +10,6 @@ mod equating;
 mod flowing;
 mod laws;
 mod rules;
-#[cfg(test)]
-mod tests;
 mod tying;
 
 pub use arrow::Arrow;

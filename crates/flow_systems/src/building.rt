@@ -3,7 +3,7 @@
 ghost use Rattle.std.specs.Prelude.{◌<◌, ℕ};
 ghost use Rattle.flow_graph.specs.System.{IsWithin};
 
-use crate::case::{Case, Row, Shape};
+use crate::case::{Case, PlainLink, Shape};
 use flow_graph::{Constraint, FlowGraph, Link, Site};
 use lattice_core::{Deref, Entry, Lattice, Lattices, Level, Name, Pair, Sign};
 use qual_base::{Elem, FuncId, LatticeNo, Numbered, Owner, SiteId, Span, TokenId, UnitNo, VarId};
@@ -54,20 +54,20 @@ fn bound_of(rt: &impl Abort, v: u32, lattice: u8, e: u8) -> Link
 }
 
 /// The link of a row.
-fn link_of(rt: &impl Abort, row: Row, sites: u32) -> Link
+fn link_of(rt: &impl Abort, row: PlainLink, sites: u32) -> Link
     ensures { IsWithin sites result }
 {
     match row {
-        Row::Le(u, v) => Link::Le(var(rt, u), var(rt, v)),
-        Row::Const(e, v) => const_of(rt, 0, e, v),
-        Row::ConstIn(lattice, e, v) => const_of(rt, lattice, e, v),
-        Row::Bound(v, e) => bound_of(rt, v, 0, e),
-        Row::BoundIn(v, lattice, e) => bound_of(rt, v, lattice, e),
-        Row::Enter(s, u, v) => {
+        PlainLink::Le(u, v) => Link::Le(var(rt, u), var(rt, v)),
+        PlainLink::Const(e, v) => const_of(rt, 0, e, v),
+        PlainLink::ConstIn(lattice, e, v) => const_of(rt, lattice, e, v),
+        PlainLink::Bound(v, e) => bound_of(rt, v, 0, e),
+        PlainLink::BoundIn(v, lattice, e) => bound_of(rt, v, lattice, e),
+        PlainLink::Enter(s, u, v) => {
             assert!(rt; s < sites);
             Link::Enter(SiteId::new(s), var(rt, u), var(rt, v))
         }
-        Row::Leave(s, u, v) => {
+        PlainLink::Leave(s, u, v) => {
             assert!(rt; s < sites);
             Link::Leave(SiteId::new(s), var(rt, u), var(rt, v))
         }

@@ -3,7 +3,7 @@
 /// A constraint by plain numbers: sites, elements and variables as in `Link`. A `Const` and a `Bound` are of the first
 /// lattice; a `ConstIn` and a `BoundIn` name theirs before the element.
 #[derive(Clone, Copy)]
-pub enum Row {
+pub enum PlainLink {
     Le(u32, u32),
     Const(u8, u32),
     ConstIn(u8, u8, u32),
@@ -42,7 +42,7 @@ pub struct Case {
     pub shapes: &'static [Shape],
     pub owners: &'static [Option<u32>],
     pub sites: &'static [(u32, Option<u32>)],
-    pub rows: &'static [Row],
+    pub rows: &'static [PlainLink],
     pub masks: &'static [u16],
     pub answers: &'static [Answers],
 }

@@ -1,6 +1,6 @@
 //! Systems in two or three lattices that were drawn at random.
 
-use crate::case::Row::{Bound, BoundIn, Const, ConstIn, Enter, Le, Leave};
+use crate::case::PlainLink::{Bound, BoundIn, Const, ConstIn, Enter, Le, Leave};
 use crate::case::{Answers, Case, DIAMOND, F0, F1, F2, FIVE, NOBODY, THREE, TWO};
 
 /// Systems in two lattices.

@@ -1,7 +1,7 @@
 //! A path proof whose calls nest in one another, beside the depths at which its system is met.
 
 use crate::building::{graph_of, lattices_of};
-use crate::case::Row::{Bound, Const, Enter, Le, Leave};
+use crate::case::PlainLink::{Bound, Const, Enter, Le, Leave};
 use crate::case::{Answers, Case, F0, TWO};
 use crate::flow_unfolding::is_met;
 use path_checker::{check, read_report};

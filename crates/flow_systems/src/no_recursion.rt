@@ -1,6 +1,6 @@
 //! Systems drawn at random in which no function calls itself.
 
-use crate::case::Row::{Bound, Const, Enter, Le, Leave};
+use crate::case::PlainLink::{Bound, Const, Enter, Le, Leave};
 use crate::case::{Answers, Case, DIAMOND, F0, F1, F2, FIVE, NOBODY, THREE};
 
 /// Systems with one function, which a site of nobody calls.

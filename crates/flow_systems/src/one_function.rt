@@ -1,6 +1,6 @@
 //! Systems drawn at random with one function that calls itself.
 
-use crate::case::Row::{Bound, Const, Enter, Le, Leave};
+use crate::case::PlainLink::{Bound, Const, Enter, Le, Leave};
 use crate::case::{Answers, Case, DIAMOND, F0, FIVE, NOBODY, THREE, TWO};
 
 /// Systems of which no bound is exceeded.

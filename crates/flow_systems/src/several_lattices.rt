@@ -1,6 +1,6 @@
 //! Systems worked out by hand in two or three lattices, with masks that differ.
 
-use crate::case::Row::{Bound, BoundIn, Const, ConstIn, Enter, Le, Leave};
+use crate::case::PlainLink::{Bound, BoundIn, Const, ConstIn, Enter, Le, Leave};
 use crate::case::{Answers, Case, DIAMOND, F0, F1, NOBODY, THREE, TWO};
 
 /// Systems without calls.

@@ -1,6 +1,6 @@
 //! Systems drawn at random with three functions and recursion.
 
-use crate::case::Row::{Bound, Const, Enter, Le, Leave};
+use crate::case::PlainLink::{Bound, Const, Enter, Le, Leave};
 use crate::case::{Answers, Case, DIAMOND, F0, F1, F2, FIVE, NOBODY, THREE};
 
 /// Systems with two to four sites.

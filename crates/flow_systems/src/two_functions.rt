@@ -1,6 +1,6 @@
 //! Systems drawn at random with two functions and recursion.
 
-use crate::case::Row::{Bound, Const, Enter, Le, Leave};
+use crate::case::PlainLink::{Bound, Const, Enter, Le, Leave};
 use crate::case::{Answers, Case, DIAMOND, F0, F1, NOBODY, THREE, TWO};
 
 /// Systems with two or three sites.

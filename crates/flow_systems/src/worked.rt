@@ -1,6 +1,6 @@
 //! Systems worked out by hand, with two elements, 1 above 0.
 
-use crate::case::Row::{Bound, Const, Enter, Le, Leave};
+use crate::case::PlainLink::{Bound, Const, Enter, Le, Leave};
 use crate::case::{Answers, Case, F0, F1, F2, F3, NOBODY, TWO};
 
 /// Systems where each call has its own copy.

@@ -20,7 +20,8 @@ first_line = line (codes "int f0(int x) { return x; }")
 -- a function that calls another one twice
 abbrev pub caller_line : ℕ → ℕ → List ℕ
 caller_line number called =
-    line (codes "int f" ++ decimal number ++ codes "(int x) { return f" ++ decimal called ++ codes "(f" ++ decimal called
+    line (codes "int f" ++ decimal number ++ codes "(int x) { return f" ++ decimal called ++ codes "(f"
+    ++ decimal called
     ++ codes "(x)); }")
 
 -- the functions up to the one with a number

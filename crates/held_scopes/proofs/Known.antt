@@ -7,6 +7,7 @@ use Rattle.c_units.specs.HeldScopes as held
 use Rattle.name_lists.specs.Newest as lists
 use Rattle.held_scopes.specs.Named.{names_of}
 
+-- the newest entry of a name in a scope is the kind that the scope gives it
 newest_kind : (es : Scope) (n : ℕ) → lists.newest es n ≡ kind_in es n
 newest_kind [] n = refl
 newest_kind (e ∷ es) n = by_test (eqb e.0 n) (newest_kind es n)

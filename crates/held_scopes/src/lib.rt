@@ -1,7 +1,7 @@
 //! The scopes that are open while a source is read, in which a declarator's name is held until its declarator ends
 //! (C99, 6.2.1).
 //!
-//! Entry: `Scopes`. Invariant: the scopes are those of `c_units`, with the name that is held.
+//! Entry: `TypedefScopes`. Invariant: the scopes are those of `c_units`, with the name that is held.
 //! It does not know tokens and trees. Above: the readers of declarators.
 #![tactic(auto)]
 
@@ -11,4 +11,4 @@ mod scopes;
 mod tests;
 
 pub use scope::Closed;
-pub use scopes::Scopes;
+pub use scopes::TypedefScopes;

@@ -22,12 +22,12 @@ use typedef_scope::Kind;
 /// linear in the names and scopes that are open, with 4 bytes for each number of a name up to the
 /// highest that was declared.
 #[derive(Drop)]
-pub struct Scopes {
+pub struct TypedefScopes {
     open: Vec<Closed>,
     names: NameScopes<Kind>,
 }
 
-impl Model for Scopes {
+impl Model for TypedefScopes {
     ghost use Rattle.std.specs.Prelude.{◌≡◌, reverse};
     ghost use Rattle.c_units.specs.HeldScopes.{HeldScopes};
     ghost use Rattle.held_scopes.specs.Named.{names_of};
@@ -63,12 +63,12 @@ fn bind_in(
     }
 }
 
-impl Scopes {
+impl TypedefScopes {
     /// One open scope, without names, of a unit that is read as wider C or not.
     pub fn new(alloc: Global, wide: bool) -> Result<Self, NoMemory>
         ensures { IfOk result (λ s. s ≡ held.file_scope wide) }
     {
-        let mut scopes = Scopes {
+        let mut scopes = TypedefScopes {
             open: Vec::new(alloc),
             names: NameScopes::new(alloc),
         };

@@ -1,7 +1,7 @@
 //! What no clause says: that names are taken where there is memory, and walks through sources.
 
 use crate::scope::Closed;
-use crate::scopes::Scopes;
+use crate::scopes::TypedefScopes;
 use qual_base::{NameId, NoMemory, Numbered};
 use std::alloc::Global;
 use std::process::Abort;
@@ -28,7 +28,7 @@ use Step::{Admits, Close, Declare, Enter, Hold, Holds, Leave, Release, Reopen, S
 /// The scopes, and those that were closed and not opened again.
 #[derive(Drop)]
 struct Walk {
-    scopes: Scopes,
+    scopes: TypedefScopes,
     closed: Vec<Closed>,
 }
 
@@ -62,7 +62,7 @@ fn take(walk: &mut Walk, step: Step) -> Result<bool, NoMemory> {
 
 /// The number of the first step whose answer is another than the one that is awaited.
 fn first_unmet(alloc: Global, steps: &[Step]) -> Result<Option<usize>, NoMemory> {
-    let scopes = Scopes::new(alloc, false)?;
+    let scopes = TypedefScopes::new(alloc, false)?;
     let closed = Vec::new(alloc);
     let mut walk = Walk { scopes, closed };
     for (n, step) in steps.iter().enumerate() {
@@ -239,7 +239,7 @@ fn kind_at(n: u32) -> Kind {
 }
 
 /// How many of the first 3,000 names have another kind than their number's.
-fn others(scopes: &Scopes) -> u32 {
+fn others(scopes: &TypedefScopes) -> u32 {
     let mut count = 0u32;
     for n in 0..3000 {
         if scopes.kind_of(NameId::new(n)) != Some(kind_at(n)) {
@@ -251,7 +251,7 @@ fn others(scopes: &Scopes) -> u32 {
 
 #[test]
 fn many_names_and_scopes_are_told_apart(rt: HostRuntime) -> Result<(), Fail> {
-    let mut scopes = Scopes::new(rt.alloc(), false)?;
+    let mut scopes = TypedefScopes::new(rt.alloc(), false)?;
     for n in 0..3000 {
         let _new = scopes.declare(NameId::new(n), kind_at(n))?;
     }

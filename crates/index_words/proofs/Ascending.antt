@@ -13,12 +13,14 @@ pub pushed_is : (ws : List Word) (w : Word) → map mark_of (ws ++ w ∷ []) ≡
 pushed_is [] w = refl
 pushed_is (x ∷ xs) w = ap (λ ys. mark_of x ∷ ys) (pushed_is xs w)
 
+-- ascending marks with one more behind them, at a higher token than all, ascend
 pub pushed_ascends : (ms : List IndexMark) (m : IndexMark) → AreAscending (tokens_of ms)
     → All (λ it. it.token < m.token) ms
     → AreAscending (tokens_of (ms ++ m ∷ []))
 pushed_ascends [] m up below = tt
 pushed_ascends (x ∷ []) m up below = (below 0 x (omega arith), tt)
-pushed_ascends (x ∷ y ∷ xs) m up below = (up.0, pushed_ascends (y ∷ xs) m up.1 (λ k d lt. below (suc k) d (omega arith)))
+pushed_ascends (x ∷ y ∷ xs) m up below =
+    (up.0, pushed_ascends (y ∷ xs) m up.1 (λ k d lt. below (suc k) d (omega arith)))
 
 -- words that ascend
 
@@ -32,12 +34,17 @@ tail_up : (x : Word) (xs : List Word) → IsUp (x ∷ xs) → IsUp xs
 tail_up x [] up = tt
 tail_up x (y ∷ ys) up = up.1
 
+-- the first of ascending words is at a lower token than all behind it
 head_below : (x : Word) (xs : List Word) → IsUp (x ∷ xs) → (j : ℕ) (d : Word) → j < length xs
     → x.token < (get_or xs j d).token
 head_below x [] up j d lt = absurd (omega arith)
 head_below x (y ∷ ys) up zero d lt = up.0
-head_below x (y ∷ ys) up (suc j) d lt = let one = up.0 in let rest = head_below y ys up.1 j d (omega arith) in omega (arith, one, rest)
+head_below x (y ∷ ys) up (suc j) d lt =
+    let one = up.0 in
+    let rest = head_below y ys up.1 j d (omega arith) in
+    omega (arith, one, rest)
 
+-- ascending words do not descend by their tokens
 rises : (ws : List Word) → IsUp ws → IsNonDecreasingBy (λ (w : Word). w.token) ws
 rises [] up i j d le lt = absurd (omega arith)
 rises (x ∷ xs) up zero zero d le lt = omega arith
@@ -56,6 +63,7 @@ word_here x xs t is = rw (eq-eqb x.token t is) refl
 word_behind : (x : Word) (xs : List Word) (t : ℕ) → x.token ≢ t → word_at (marks (x ∷ xs)) t ≡ word_at (marks xs) t
 word_behind x xs t is_not = rw (ne_eqb x.token t is_not) refl
 
+-- no word is at a token that is lower than those of all words
 none_before : (ws : List Word) (t : ℕ) → ((j : ℕ) (d : Word) → j < length ws → t < (get_or ws j d).token)
     → None ≡ word_at (marks ws) t
 none_before [] t above = refl
@@ -65,6 +73,7 @@ none_before (x ∷ xs) t above = none_before xs t (λ j d lt. above (suc j) d (o
 abbrev Cuts : ℕ → List Word → ℕ → Type 0
 Cuts t ws i = IsPartitionPoint (λ (w : Word). nat_lt w.token t ≡ true) (λ (w : Word). nat_lt w.token t ≡ false) ws i
 
+-- a place that cuts words at a token behind the first cuts the rest one place earlier
 behind_cut : (t : ℕ) (x : Word) (xs : List Word) (i : ℕ) → Cuts t (x ∷ xs) (suc i) → Cuts t xs i
 behind_cut t x xs i cut = (
   (λ k d lo lt. cut.0 (suc k) d (omega arith) (omega arith)),
@@ -74,6 +83,7 @@ behind_cut t x xs i cut = (
 lower : (t : ℕ) (x : Word) (xs : List Word) (i : ℕ) → Cuts t (x ∷ xs) (suc i) → x.token ≢ t
 lower t x xs i cut is = let h = ltb-true x.token t (cut.0 0 x (omega arith) (omega arith)) in omega (arith, is, h)
 
+-- a word at a token that stands where the token cuts the words is the one at that token
 pub found : (ws : List Word) (t i : ℕ) (w : Word) → Cuts t ws i → i < length ws → w ≡ get_or ws i w → w.token ≡ t
     → Some w.numbers.items ≡ word_at (map mark_of ws) t
 found [] t i w cut lt there is = absurd (omega arith)
@@ -82,12 +92,14 @@ found (x ∷ xs) t zero w cut lt there is =
 found (x ∷ xs) t (suc i) w cut lt there is = found xs t i w (behind_cut t x xs i cut) (omega arith) there is
     ∙ sym (word_behind x xs t (lower t x xs i cut))
 
+-- where a token cuts the words at their end, none is at it
 pub none_there : (ws : List Word) (t i : ℕ) → Cuts t ws i → length ws ≤ i → None ≡ word_at (map mark_of ws) t
 none_there [] t i cut past = refl
 none_there (x ∷ xs) t zero cut past = absurd (omega arith)
 none_there (x ∷ xs) t (suc i) cut past = none_there xs t i (behind_cut t x xs i cut) (omega arith)
     ∙ sym (word_behind x xs t (lower t x xs i cut))
 
+-- where the word at the cut is at another token, none is at this one
 pub other_there : (ws : List Word) (t i : ℕ) (w : Word) → IsUp ws → Cuts t ws i → i < length ws → w ≡ get_or ws i w
     → w.token ≢ t
     → None ≡ word_at (map mark_of ws) t
@@ -101,6 +113,7 @@ other_there (x ∷ xs) t (suc i) w up cut lt there is_not =
     other_there xs t i w (tail_up x xs up) (behind_cut t x xs i cut) (omega arith) there is_not
     ∙ sym (word_behind x xs t (lower t x xs i cut))
 
+-- the numbers of the word at a token, or none, are those that the marks have at it
 pub numbers_of : (ms : List IndexMark) (t : ℕ) (o : Option (List ℕ)) → o ≡ word_at ms t
     → unwrap_or o [] ≡ numbers_at ms t
 numbers_of ms t o is = ap (λ p. unwrap_or p []) is ∙ of ms

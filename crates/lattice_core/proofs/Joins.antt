@@ -8,7 +8,7 @@ use Rattle.lattice_core.specs.Rows.{order_of}
 use Rattle.lattice_core.proofs.UpperLower.{leq_bit, bit_leq, same_row}
 
 -- an element at or below each of the first k
-low_of : (order : Order) → IsLattice order → (k : ℕ) → k ≤ size order
+pub low_of : (order : Order) → IsLattice order → (k : ℕ) → k ≤ size order
     → (c : ℕ) × (c < size order) × ((a : ℕ) → a < k → leq order c a ≡ true)
 low_of order lattice zero h = (0, lattice.inhabited, λ a none. absurd (omega arith))
 low_of order lattice (suc k) h =
@@ -28,6 +28,7 @@ record IsJoinBelow (order : Order) (set k j : ℕ) : Type 0 where
   upper : (a : ℕ) → a < k → bit_at set a ≡ 1 → leq order a j ≡ true
   least : (d : ℕ) → d < size order → ((a : ℕ) → a < k → bit_at set a ≡ 1 → leq order a d ≡ true) → leq order j d ≡ true
 
+-- in a lattice those of the first elements that a set has have a join
 join_below : (order : Order) → IsLattice order → (set k : ℕ) → k ≤ size order → (j : ℕ) × IsJoinBelow order set k j
 join_below order lattice set zero h =
     let low = low_of order lattice (size order) (omega arith) in
@@ -46,7 +47,8 @@ join_below order lattice set (suc k) h =
                 | inl under ↦ lattice.ordered.through a j join.0 (is.upper a under bit) join.1.left
                 | inr past ↦ let e : a ≡ k = omega arith in rw e join.1.right
               ];
-              least = λ d within all. join.1.least d (is.least d within (λ a under bit. all a (omega arith) bit)) (all k (omega arith) there);
+              least = λ d within all. join.1.least d (is.least d within (λ a under bit. all a (omega arith) bit))
+                  (all k (omega arith) there);
             },
           )
       | inr none ↦ (
@@ -64,14 +66,18 @@ join_below order lattice set (suc k) h =
 
 -- what a set's rows share
 abbrev pub IsShared : List ℕ → ℕ → ℕ → Type 0
-IsShared above set row = (i : ℕ) → (bit_at row i ≡ 1) ↔ ((bit_at (2 ^ length above - 1) i ≡ 1) × ((a : ℕ) → a < length above → bit_at set a ≡ 1 → bit_at (get_or above a 0) i ≡ 1))
+IsShared above set row =
+    (i : ℕ) → (bit_at row i ≡ 1) ↔ ((bit_at (2 ^ length above - 1) i ≡ 1)
+    × ((a : ℕ) → a < length above → bit_at set a ≡ 1 → bit_at (get_or above a 0) i ≡ 1))
 
+-- the set of all elements below a number has none from it on
 all_bit : (n i : ℕ) → bit_at (2 ^ n - 1) i ≡ 1 → i < n
 all_bit n i h = elim (cases_lt i n) [
   | inl within ↦ within
   | inr past ↦ let zero : bit_at (2 ^ n - 1) i ≡ 0 = bit_at_ones_above n i past in absurd cc
 ]
 
+-- what the rows of a set's elements share is the row of some element of a lattice
 pub shared_there : (above : List ℕ) → IsLattice (order_of above) → (set row : ℕ) → IsShared above set row
     → (x : ℕ) × (x < length above) × (get_or above x 0 ≡ row)
 shared_there above lattice set row shared =
@@ -83,13 +89,16 @@ shared_there above lattice set row shared =
       same_row (get_or above j 0) row
           (λ i h. (shared i).1 (
             bit_at_ones (length above) i (lattice.ordered.inside j i (bit_leq above j i h)).1,
-            λ a within bit. leq_bit above a i (lattice.ordered.through a j i (is.upper a within bit) (bit_leq above j i h)),
+            λ a within bit.
+                leq_bit above a i (lattice.ordered.through a j i (is.upper a within bit) (bit_leq above j i h)),
           ))
           (λ i h.
           let both = (shared i).0 h in
-          leq_bit above j i (is.least i (all_bit (length above) i both.0) (λ a within bit. bit_leq above a i (both.1 a within bit)))),
+          leq_bit above j i
+          (is.least i (all_bit (length above) i both.0) (λ a within bit. bit_leq above a i (both.1 a within bit)))),
     )
 
+-- an element whose row is what the rows of a set's elements share is the join of the set
 pub shared_joins : (above : List ℕ) → IsLattice (order_of above) → (set row c : ℕ) → IsShared above set row
     → c < length above → get_or above c 0 ≡ row → IsJoinOf (order_of above) set c
 shared_joins above lattice set row c shared within e =
@@ -97,5 +106,6 @@ shared_joins above lattice set row c shared within e =
     record {
       element = within;
       upper = λ a h bit. bit_leq above a c (((shared c).0 own).1 a h bit);
-      least = λ d h all. bit_leq above c d (ap (λ r. bit_at r d) e ∙ (shared d).1 (bit_at_ones (length above) d h, λ a p bit. leq_bit above a d (all a p bit)));
+      least = λ d h all. bit_leq above c d (ap (λ r. bit_at r d) e
+          ∙ (shared d).1 (bit_at_ones (length above) d h, λ a p bit. leq_bit above a d (all a p bit)));
     }

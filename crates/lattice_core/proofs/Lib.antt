@@ -7,3 +7,4 @@ pub mod Made
 pub mod Joins
 pub mod NameLemmas
 pub mod Pushed
+pub mod Orders

@@ -11,6 +11,7 @@ use Rattle.std.proofs.lemmas.Slice.Eq.{bytes_eq-Decides}
 use Rattle.lattice_core.specs.declared.Entry.{Entry}
 use Rattle.lattice_core.specs.Entries.{name_of, level_of, name_at, level_at, number_of, AreDistinct}
 
+-- a place within a list has its image in the mapped list
 pub item_at : {X Y : Type 0} (f : X → Y) (xs : List X) (i : ℕ) (d : X) → i < length xs
     → slice_get (map f xs) i ≡ Some (f (get_or xs i d))
 item_at f [] i d h = absurd (omega arith)
@@ -33,12 +34,14 @@ item_in_front f [] (suc k) i h = refl
 item_in_front f (x ∷ xs) (suc k) zero h = refl
 item_in_front f (x ∷ xs) (suc k) (suc i) h = item_in_front f xs k i (omega arith)
 
+-- the number of a name is that of an entry, which has that name
 pub has_name : (entries : List Entry) (name : List ℕ) (i : ℕ) → number_of entries name ≡ Some i
     → (i < length entries) × (name_at entries i ≡ Some name)
 has_name [] name i h = absurd cc
 has_name (e ∷ es) name i h =
     let found = position-Some (λ (entry : Entry). bytes_eq name (name_of entry)) (e ∷ es) i e h in
-    let same : name ≡ name_of (get_or (e ∷ es) i e) = (bytes_eq-Decides name (name_of (get_or (e ∷ es) i e))).0 found.1 in
+    let same : name ≡ name_of (get_or (e ∷ es) i e) =
+    (bytes_eq-Decides name (name_of (get_or (e ∷ es) i e))).0 found.1 in
     (found.0, name_is (e ∷ es) i e found.0 ∙ ap Some (sym same))
 
 untrue : (b : Bool) (n : ℕ) → cond b (Some n) None ≡ None → b ≡ false
@@ -49,23 +52,28 @@ untrue false n h = refl
 none_passes : {X : Type 0} (p : X → Bool) (xs : List X) → position p xs ≡ None → (i : ℕ) (d : X) → i < length xs
     → p (get_or xs i d) ≡ false
 none_passes p xs none i d h =
-    let past : length xs ≤ position_or_len p xs = ltb-false (position_or_len p xs) (length xs) (untrue (nat_lt (position_or_len p xs) (length xs)) (position_or_len p xs) none) in
+    let past : length xs ≤ position_or_len p xs = ltb-false (position_or_len p xs) (length xs)
+    (untrue (nat_lt (position_or_len p xs) (length xs)) (position_or_len p xs) none) in
     fails_before_first p xs i d (omega arith)
 
+-- past the end of a list the mapped list has nothing
 item_past : {X Y : Type 0} (f : X → Y) (xs : List X) (i : ℕ) → length xs ≤ i → slice_get (map f xs) i ≡ None
 item_past f [] i h = refl
 item_past f (x ∷ xs) zero h = absurd (omega arith)
 item_past f (x ∷ xs) (suc i) h = item_past f xs i (omega arith)
 
+-- where a name has no number, no entry has it
 pub lacks_name : (entries : List Entry) (name : List ℕ) → number_of entries name ≡ None → (i : ℕ)
     → name_at entries i ≢ Some name
 lacks_name [] name none i is = cc
 lacks_name (e ∷ es) name none i is = elim (cases_lt i (length (e ∷ es))) [
   | inl within ↦
-      let other : bytes_eq name (name_of (get_or (e ∷ es) i e)) ≡ false = none_passes (λ (entry : Entry). bytes_eq name (name_of entry)) (e ∷ es) none i e within in
+      let other : bytes_eq name (name_of (get_or (e ∷ es) i e)) ≡ false =
+      none_passes (λ (entry : Entry). bytes_eq name (name_of entry)) (e ∷ es) none i e within in
       let there = name_is (e ∷ es) i e within in
       let same : name ≡ name_of (get_or (e ∷ es) i e) = cc in
-      let eq : bytes_eq name (name_of (get_or (e ∷ es) i e)) ≡ true = (bytes_eq-Decides name (name_of (get_or (e ∷ es) i e))).1 same in
+      let eq : bytes_eq name (name_of (get_or (e ∷ es) i e)) ≡ true =
+      (bytes_eq-Decides name (name_of (get_or (e ∷ es) i e))).1 same in
       cc
   | inr past ↦
       let none_there : name_at (e ∷ es) i ≡ None = item_past name_of (e ∷ es) i past in

@@ -13,7 +13,8 @@ before_or_last (z ∷ xs) y (suc n) x is = before_or_last xs y n x is
 pub each_pushed : {A : Type 0} (Is : A → Type 0) (old new : List A) (y : A) → new ≡ old ++ y ∷ []
     → ((n : ℕ) (x : A) → slice_get old n ≡ Some x → Is x) → Is y →
     (n : ℕ) (x : A) → slice_get new n ≡ Some x → Is x
-each_pushed Is old new y more each last n x is = elim (before_or_last old y n x (sym (ap (λ xs. slice_get xs n) more) ∙ is)) [
-  | inl before ↦ each n x before
-  | inr same ↦ subst Is same last
-]
+each_pushed Is old new y more each last n x is =
+    elim (before_or_last old y n x (sym (ap (λ xs. slice_get xs n) more) ∙ is)) [
+      | inl before ↦ each n x before
+      | inr same ↦ subst Is same last
+    ]

@@ -18,4 +18,5 @@ AreLed links start row = (i : ℕ) → bit_at row i ≡ 1 → Leads links start 
 
 -- no link leads out of a row
 abbrev pub IsClosed : List ℕ → ℕ → Type 0
-IsClosed links row = (a b : ℕ) → a < length links → bit_at row a ≡ 1 → bit_at (slice_index links a) b ≡ 1 → bit_at row b ≡ 1
+IsClosed links row =
+    (a b : ℕ) → a < length links → bit_at row a ≡ 1 → bit_at (slice_index links a) b ≡ 1 → bit_at row b ≡ 1

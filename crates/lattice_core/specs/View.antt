@@ -22,7 +22,8 @@ pub record IsElement (lattices : List LatticeView) (lattice elem : ℕ) : Type 0
 
 -- the elements of each lattice are its entries
 abbrev pub AreSized : List LatticeView → Type 0
-AreSized lattices = (n : ℕ) (view : LatticeView) → slice_get lattices n ≡ Some view → size view.order ≡ length view.entries
+AreSized lattices =
+    (n : ℕ) (view : LatticeView) → slice_get lattices n ≡ Some view → size view.order ≡ length view.entries
 
 -- each is a lattice
 abbrev pub AreLattices : List LatticeView → Type 0

@@ -10,8 +10,6 @@ mod checks;
 mod collection;
 mod rows;
 mod tables;
-#[cfg(test)]
-mod tests;
 
 ghost use Rattle.std.specs.Prelude.{◌≡◌, ℕ, List, IfOk};
 ghost use Rattle.lattice_core.specs.Passing.{no_flows};

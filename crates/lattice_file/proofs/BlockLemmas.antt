@@ -33,8 +33,10 @@ front_taken [] rest = refl
 front_taken (b ∷ front) rest = ap (λ (bs : List BlockView). b ∷ bs) (front_taken front rest)
 
 -- a block that makes no lattice, behind such as do, is the first that is refused
-pub refused_at : (blocks front : List BlockView) (block : BlockView) (rest : List BlockView) (lattices : List LatticeView) (before : ℕ) (fault : LatticeFileFault) →
-    front ++ block ∷ rest ≡ blocks → before ≡ length lattices → AreAllBuilt front lattices → IsBlockFault block before fault → IsBuildFault blocks fault
+pub refused_at : (blocks front : List BlockView) (block : BlockView) (rest : List BlockView)
+    (lattices : List LatticeView) (before : ℕ) (fault : LatticeFileFault) →
+    front ++ block ∷ rest ≡ blocks → before ≡ length lattices → AreAllBuilt front lattices
+    → IsBlockFault block before fault → IsBuildFault blocks fault
 refused_at blocks front block rest lattices before NoMemory e count built fault = tt
 refused_at blocks front block rest lattices before (Block number reason) e count built fault =
     let there : slice_get blocks (length front) ≡ Some block = rw (← e) (found_behind front block rest) in
@@ -55,12 +57,15 @@ refused_at blocks front block rest lattices before (SharedName name) e count bui
 
 pub items_on : (front : List BlockView) (block : BlockView) (left rest blocks : List BlockView) → left ≡ block ∷ rest
     → front ++ left ≡ blocks → (front ++ block ∷ []) ++ rest ≡ blocks
-items_on front block left rest blocks e all = append_assoc front (block ∷ []) rest ∙ ap (λ (bs : List BlockView). front ++ bs) (sym e) ∙ all
+items_on front block left rest blocks e all =
+    append_assoc front (block ∷ []) rest ∙ ap (λ (bs : List BlockView). front ++ bs) (sym e) ∙ all
 
 -- of at most 16 blocks one that is not yet built has fewer than 16 lattices before it
-pub count_below : (blocks front : List BlockView) (block : BlockView) (rest : List BlockView) (lattices : List LatticeView)
+pub count_below : (blocks front : List BlockView) (block : BlockView) (rest : List BlockView)
+    (lattices : List LatticeView)
     → front ++ block ∷ rest ≡ blocks → AreAllBuilt front lattices →
     length blocks ≤ 16 → length lattices < 16
 count_below blocks front block rest lattices e built few =
-    let all : length front + suc (length rest) ≡ length blocks = sym (length-append front (block ∷ rest)) ∙ ap length e in
+    let all : length front + suc (length rest) ≡ length blocks =
+    sym (length-append front (block ∷ rest)) ∙ ap length e in
     omega (arith, built_count front lattices built, all, few)

@@ -1,10 +1,11 @@
 -- A lexeme and what stands behind it are determined by the bytes.
 use Rattle.std.proofs.Common.{◌≡◌, ℕ, Bool, true, false, ◌||◌, nat_eq, List, [], ◌∷◌, ◌++◌, refl, sym, ◌∙◌, ap, subst, ◌⊎◌, inl, inr, if◌then◌else◌}
 use Rattle.std.specs.List.{list_all}
-use Rattle.std.proofs.lemmas.Bool.{eqb-true}
+use Rattle.std.proofs.lemmas.Bool.{eqb-true, or_cases}
+use Rattle.qual_base.proofs.Tests.{and_first}
 use Rattle.lattice_file.specs.Text.{Gap, is_blank, stands_in_words, lengthens, stands_in_text}
 use Rattle.lattice_file.specs.Steps.{Lexeme, WordLexeme, SignLexeme, TextLexeme, Spells}
-use Rattle.lattice_file.proofs.GapUnique.{and_first, or_cases, head_same, tail_same, row_one, GapView, ViewNothing, ViewBlank, ViewComment, ViewLine, gap_view, IsStuck, gap_one}
+use Rattle.lattice_file.proofs.GapUnique.{head_same, tail_same, row_one, GapView, ViewNothing, ViewBlank, ViewComment, ViewLine, gap_view, IsStuck, gap_one}
 
 pub data Kind : Type 0 where
   InGap : Kind
@@ -14,7 +15,9 @@ pub data Kind : Type 0 where
 
 -- what a byte begins
 abbrev pub kind_of : ℕ → Kind
-kind_of b = if is_blank b || nat_eq b 47 then InGap else if stands_in_words b then InWord else if nat_eq b 34 then AtQuote else AtSign
+kind_of b =
+    if is_blank b || nat_eq b 47 then InGap else if stands_in_words b then InWord else if nat_eq b 34
+    then AtQuote else AtSign
 
 -- what the first byte of a lexeme begins, by its form
 abbrev pub kind_of_lexeme : Lexeme → Kind
@@ -36,13 +39,20 @@ gap_byte b gap word = by_last (or_cases (is_blank b) (nat_eq b 47) gap)
     at c e = rw (← eqb-true b c e) word
 
     by_third : (nat_eq b 32 || nat_eq b 9) ≡ true → ⊥
-    by_third h = elim (or_cases (nat_eq b 32) (nat_eq b 9) h) [ inl e ↦ (let clash : stands_in_words 32 ≡ true = at 32 e in absurd cc) | inr e ↦ (let clash : stands_in_words 9 ≡ true = at 9 e in absurd cc) ]
+    by_third h = elim (or_cases (nat_eq b 32) (nat_eq b 9) h) [
+      | inl e ↦ (let clash : stands_in_words 32 ≡ true = at 32 e in absurd cc)
+      | inr e ↦ (let clash : stands_in_words 9 ≡ true = at 9 e in absurd cc)
+    ]
 
     by_second : (nat_eq b 32 || nat_eq b 9 || nat_eq b 13) ≡ true → ⊥
-    by_second h = elim (or_cases (nat_eq b 32 || nat_eq b 9) (nat_eq b 13) h) [ inl e ↦ by_third e | inr e ↦ (let clash : stands_in_words 13 ≡ true = at 13 e in absurd cc) ]
+    by_second h =
+        elim (or_cases (nat_eq b 32 || nat_eq b 9) (nat_eq b 13) h)
+        [ inl e ↦ by_third e | inr e ↦ (let clash : stands_in_words 13 ≡ true = at 13 e in absurd cc) ]
 
     by_first : is_blank b ≡ true → ⊥
-    by_first h = elim (or_cases (nat_eq b 32 || nat_eq b 9 || nat_eq b 13) (nat_eq b 10) h) [ inl e ↦ by_second e | inr e ↦ (let clash : stands_in_words 10 ≡ true = at 10 e in absurd cc) ]
+    by_first h =
+        elim (or_cases (nat_eq b 32 || nat_eq b 9 || nat_eq b 13) (nat_eq b 10) h)
+        [ inl e ↦ by_second e | inr e ↦ (let clash : stands_in_words 10 ≡ true = at 10 e in absurd cc) ]
 
     by_last : (is_blank b ≡ true) ⊎ (nat_eq b 47 ≡ true) → ⊥
     by_last (inl e) = by_first e
@@ -68,7 +78,10 @@ stuck_at b more kind e other rest gap = go (gap_view (b ∷ more) rest gap)
 
     go : GapView (b ∷ more) rest → rest ≡ b ∷ more
     go (ViewNothing f) = f
-    go (ViewBlank c behind f is on) = let same : c ≡ b = sym (head_same b c more behind f) in let here : is_blank b ≡ true = rw same at is in absurd (other (sym (blank_kind b here) ∙ e))
+    go (ViewBlank c behind f is on) =
+        let same : c ≡ b = sym (head_same b c more behind f) in
+        let here : is_blank b ≡ true = rw same at is in
+        absurd (other (sym (blank_kind b here) ∙ e))
     go (ViewComment text behind f inside on) = absurd (slash (head_same b 47 more (42 ∷ text ++ 42 ∷ 47 ∷ behind) f))
     go (ViewLine text behind f inside ends on) = absurd (slash (head_same b 47 more (47 ∷ text ++ behind) f))
 
@@ -92,10 +105,17 @@ pub record Begins (lexeme : Lexeme) (bytes : List ℕ) : Type 0 where
 -- the bytes of a proper lexeme begin with a byte of its kind
 pub begins : (lexeme : Lexeme) (bytes rest : List ℕ) → IsProper lexeme → Spells lexeme bytes rest → Begins lexeme bytes
 begins (WordLexeme word) bytes rest (b, more, is, all) spells =
-    let inside : list_all stands_in_words (b ∷ more) ≡ true = subst (λ (w : List ℕ). list_all stands_in_words w ≡ true) is all in
-    record { byte = b; more = more ++ rest; is = spells.0 ∙ ap (λ (w : List ℕ). w ++ rest) is; kind = word_kind b (and_first (stands_in_words b) (list_all stands_in_words more) inside) }
+    let inside : list_all stands_in_words (b ∷ more) ≡ true =
+    subst (λ (w : List ℕ). list_all stands_in_words w ≡ true) is all in
+    record {
+      byte = b;
+      more = more ++ rest;
+      is = spells.0 ∙ ap (λ (w : List ℕ). w ++ rest) is;
+      kind = word_kind b (and_first (stands_in_words b) (list_all stands_in_words more) inside);
+    }
 begins (SignLexeme sign) bytes rest proper spells = record { byte = sign; more = rest; is = spells; kind = proper }
-begins TextLexeme bytes rest proper spells = record { byte = 34; more = spells.0 ++ 34 ∷ rest; is = spells.1; kind = refl }
+begins TextLexeme bytes rest proper spells =
+    record { byte = 34; more = spells.0 ++ 34 ∷ rest; is = spells.1; kind = refl }
 
 -- no lexeme is of the kind of gaps
 pub not_gap : (lexeme : Lexeme) → InGap ≡ kind_of_lexeme lexeme → ⊥
@@ -113,18 +133,23 @@ pub word_stop : (b : ℕ) (bytes : List ℕ) → lengthens (b ∷ bytes) ≡ fal
 word_stop b bytes h s = let clash : false ≡ true = sym h ∙ s in absurd cc
 
 text_stop : (b : ℕ) (bytes : List ℕ) → ((rest : List ℕ) × (b ∷ bytes ≡ 34 ∷ rest)) → stands_in_text b ≡ true → ⊥
-text_stop b bytes h s = let there : stands_in_text 34 ≡ true = subst (λ (b : ℕ). stands_in_text b ≡ true) (head_same b 34 bytes h.0 h.1) s in absurd cc
+text_stop b bytes h s =
+    let there : stands_in_text 34 ≡ true =
+    subst (λ (b : ℕ). stands_in_text b ≡ true) (head_same b 34 bytes h.0 h.1) s in
+    absurd cc
 
 -- two proper lexemes of one kind that the same bytes spell are the same, with the same rest
 pub spells_one : (x y : Lexeme) (bytes a b : List ℕ) → IsProper x → IsProper y → kind_of_lexeme x ≡ kind_of_lexeme y
     → Spells x bytes a → Spells y bytes b → (x ≡ y) × (a ≡ b)
 spells_one (WordLexeme w) (WordLexeme v) bytes a b px py k sx sy =
-    let same = row_one stands_in_words (λ bytes. lengthens bytes ≡ false) word_stop w v a b px.3 py.3 sx.1 sy.1 (sym sx.0 ∙ sy.0) in
+    let same = row_one stands_in_words (λ bytes. lengthens bytes ≡ false) word_stop w v a b px.3 py.3 sx.1 sy.1
+    (sym sx.0 ∙ sy.0) in
     (ap (λ (w : List ℕ). WordLexeme w) same.0, same.1)
 spells_one (SignLexeme s) (SignLexeme t) bytes a b px py k sx sy =
     (ap (λ (s : ℕ). SignLexeme s) (head_same s t a b (sym sx ∙ sy)), tail_same s t a b (sym sx ∙ sy))
 spells_one TextLexeme TextLexeme bytes a b px py k sx sy =
-    let same = row_one stands_in_text (λ bytes. (rest : List ℕ) × (bytes ≡ 34 ∷ rest)) text_stop sx.0 sy.0 (34 ∷ a) (34 ∷ b) sx.2 sy.2 (a, refl) (b, refl)
+    let same = row_one stands_in_text (λ bytes. (rest : List ℕ) × (bytes ≡ 34 ∷ rest)) text_stop sx.0 sy.0 (34 ∷ a)
+    (34 ∷ b) sx.2 sy.2 (a, refl) (b, refl)
     (tail_same 34 34 (sx.0 ++ 34 ∷ a) (sy.0 ++ 34 ∷ b) (sym sx.1 ∙ sy.1)) in
     (refl, tail_same 34 34 a b same.1)
 spells_one (WordLexeme w) (SignLexeme t) bytes a b px py k sx sy = absurd cc
@@ -146,7 +171,8 @@ pub takes_one : (x y : Lexeme) (bytes a b : List ℕ) → IsProper x → IsPrope
 takes_one x y bytes a b px py tx ty =
     let bx = begins x tx.behind a px tx.spells in
     let by = begins y ty.behind b py ty.spells in
-    let same : ty.behind ≡ tx.behind = gap_one bytes ty.behind tx.behind ty.gap tx.gap (lexeme_stuck y ty.behind by) (lexeme_stuck x tx.behind bx) in
+    let same : ty.behind ≡ tx.behind =
+    gap_one bytes ty.behind tx.behind ty.gap tx.gap (lexeme_stuck y ty.behind by) (lexeme_stuck x tx.behind bx) in
     let here : Spells y tx.behind b = subst (λ (bytes : List ℕ). Spells y bytes b) same ty.spells in
     let there : Begins y tx.behind = subst (λ (bytes : List ℕ). Begins y bytes) same by in
     spells_one x y tx.behind a b px py (kinds_same x y tx.behind bx there) tx.spells here

@@ -13,3 +13,4 @@ pub mod LexemeLemmas
 pub mod GapLemmas
 pub mod FrontLemmas
 pub mod AnswerLemmas
+pub mod Built

@@ -8,7 +8,8 @@ use Rattle.lattice_file.specs.Places.{lines_in, after_last_line}
 -- one more byte adds a line where it is a line feed
 lines_behind : (bytes : List ℕ) (byte : ℕ)
     → lines_in (bytes ++ byte ∷ []) ≡ (if byte == 10 then lines_in bytes + 1 else lines_in bytes)
-lines_behind bytes byte = sum_by-append (λ (b : ℕ). cond (b == 10) 1 0) bytes (byte ∷ []) ∙ counted (byte == 10) (lines_in bytes)
+lines_behind bytes byte =
+    sum_by-append (λ (b : ℕ). cond (b == 10) 1 0) bytes (byte ∷ []) ∙ counted (byte == 10) (lines_in bytes)
   where
     counted : (b : Bool) (n : ℕ) → n + (0 + cond b 1 0) ≡ (if b then n + 1 else n)
     counted true n = omega arith
@@ -32,14 +33,16 @@ pub line_on : (bytes : List ℕ) (i line : ℕ) → i < length bytes → line �
     (if get_or bytes i 0 == 10 then line + 1 else line) ≡ lines_in (take (i + 1) bytes) + 1
 line_on bytes i line h e =
     shifted (get_or bytes i 0 == 10) line (lines_in (take i bytes)) e
-    ∙ ap (λ (n : ℕ). n + 1) (sym (lines_behind (take i bytes) (get_or bytes i 0)) ∙ ap lines_in (sym (take_more bytes i 0 h)))
+    ∙ ap (λ (n : ℕ). n + 1)
+    (sym (lines_behind (take i bytes) (get_or bytes i 0)) ∙ ap lines_in (sym (take_more bytes i 0 h)))
 
 -- the column at the next place is 1 behind a line feed, and else one further
 pub column_on : (bytes : List ℕ) (i column : ℕ) → i < length bytes → column ≡ after_last_line (take i bytes) 0 + 1 →
     (if get_or bytes i 0 == 10 then 1 else column + 1) ≡ after_last_line (take (i + 1) bytes) 0 + 1
 column_on bytes i column h e =
     shifted_column (get_or bytes i 0 == 10) column (after_last_line (take i bytes) 0) e
-    ∙ ap (λ (n : ℕ). n + 1) (sym (column_behind (take i bytes) (get_or bytes i 0) 0) ∙ ap (λ (front : List ℕ). after_last_line front 0) (sym (take_more bytes i 0 h)))
+    ∙ ap (λ (n : ℕ). n + 1) (sym (column_behind (take i bytes) (get_or bytes i 0) 0)
+    ∙ ap (λ (front : List ℕ). after_last_line front 0) (sym (take_more bytes i 0 h)))
 
 pub line_bound : (b : Bool) (line i : ℕ) → line ≤ i + 1 → (if b then line + 1 else line) ≤ i + 1 + 1
 line_bound true line i h = omega arith

@@ -10,7 +10,8 @@ pub named_on : (lattices : List LatticeView) (at : ℕ) (word : List ℕ) (latti
     → slice_get lattices at ≡ Some lattice → number_of lattice.entries word ≡ None →
     (IsNamedBefore lattices at word → ⊥) → IsNamedBefore lattices (at + 1) word → ⊥
 named_on lattices at word lattice there none before h = elim (cases_lt h.at at) [
-  | inl under ↦ before (record { at = h.at; within = under; lattice = h.lattice; there = h.there; elem = h.elem; named = h.named })
+  | inl under ↦ before
+      (record { at = h.at; within = under; lattice = h.lattice; there = h.there; elem = h.elem; named = h.named })
   | inr past ↦
       let e : h.at ≡ at = omega (arith, h.within, past) in
       let same : Some h.lattice ≡ Some lattice = sym h.there ∙ ap (slice_get lattices) e ∙ there in

@@ -26,7 +26,8 @@ pub record LineEnds (bytes : List ℕ) (from end : ℕ) : Type 0 where
 
 -- a gap goes from one place to another
 abbrev pub GapGoes : List ℕ → ℕ → ℕ → Type 0
-GapGoes bytes from end = (tail : List ℕ) → Resembles tail (drop end bytes) → Gap (slice_range bytes from end ++ tail) tail
+GapGoes bytes from end =
+    (tail : List ℕ) → Resembles tail (drop end bytes) → Gap (slice_range bytes from end ++ tail) tail
 
 -- What begins as a comment begins at one place fails at another: it can be ended there, and no comment goes on so.
 pub record CommentFails (bytes : List ℕ) (at place : ℕ) : Type 0 where

@@ -14,7 +14,8 @@ use Rattle.lattice_file.specs.Begins.{IsFirstBad}
 
 -- a block that follows so many others makes no lattice, for a reason other than memory, or memory ran out
 abbrev pub IsBlockFault : BlockView → ℕ → LatticeFileFault → Type 0
-IsBlockFault block before (Block number fault) = (number ≡ before + 1) × Refuses block.entries block.pairs fault × (fault ≢ NoMemory)
+IsBlockFault block before (Block number fault) =
+    (number ≡ before + 1) × Refuses block.entries block.pairs fault × (fault ≢ NoMemory)
 IsBlockFault block before OutOfMemory = Unit {0}
 IsBlockFault block before _ = ⊥
 
@@ -56,11 +57,13 @@ pub record HasSharedName (wide : Bool) (bytes name : List ℕ) : Type 0 where
 
 -- the answer for the blocks of a text, which is no fault of the text, and memory aside is this one alone
 abbrev pub IsAnswerFor : List BlockView → Result (List LatticeView) LatticeFileFault → Type 0
-IsAnswerFor blocks (Ok lattices) = (length blocks ≤ 16) × AreAllBuilt blocks lattices × AreApart lattices (length lattices)
+IsAnswerFor blocks (Ok lattices) =
+    (length blocks ≤ 16) × AreAllBuilt blocks lattices × AreApart lattices (length lattices)
 IsAnswerFor blocks (Err (Block number reason)) = (length blocks ≤ 16) × IsFirstRefused blocks number reason
 IsAnswerFor blocks (Err (Grammar line column)) = ⊥
 IsAnswerFor blocks (Err TooManyLattices) = 16 < length blocks
-IsAnswerFor blocks (Err (SharedName name)) = (length blocks ≤ 16) × (lattices : List LatticeView) × AreAllBuilt blocks lattices × IsFirstShared lattices name
+IsAnswerFor blocks (Err (SharedName name)) =
+    (length blocks ≤ 16) × (lattices : List LatticeView) × AreAllBuilt blocks lattices × IsFirstShared lattices name
 IsAnswerFor blocks (Err OutOfMemory) = Unit {0}
 
 -- the line and the column of the first place up to which no lattice text begins so

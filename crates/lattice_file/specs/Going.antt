@@ -20,7 +20,8 @@ pub record Draft : Type 0 where
   pub blocks : List BlockView
 
 -- the rest has the other items of a block, and then the other blocks
-pub record GoesOnItems (wide : Bool) (flows : Flows) (entries : List Entry) (pairs : List Pair) (blocks : List BlockView) (rest : List ℕ) (all : List BlockView) : Type 0 where
+pub record GoesOnItems (wide : Bool) (flows : Flows) (entries : List Entry) (pairs : List Pair)
+    (blocks : List BlockView) (rest : List ℕ) (all : List BlockView) : Type 0 where
   pub more_entries : List Entry
   pub more_pairs : List Pair
   pub more : List BlockView
@@ -28,19 +29,22 @@ pub record GoesOnItems (wide : Bool) (flows : Flows) (entries : List Entry) (pai
   pub items : Items wide more_entries more_pairs rest behind
   pub filled : 0 < length (entries ++ more_entries)
   pub others : IsLatticeText wide more behind
-  pub is : all ≡ blocks ++ record { entries = entries ++ more_entries; pairs = pairs ++ more_pairs; flows = flows } ∷ more
+  pub is : all ≡ blocks
+      ++ record { entries = entries ++ more_entries; pairs = pairs ++ more_pairs; flows = flows } ∷ more
 
 -- the rest has the other attributes of an entry, and then goes on in its block
 pub record GoesOnAttributes (given : Given) (draft : Draft) (rest : List ℕ) (all : List BlockView) : Type 0 where
   pub end : Given
   pub behind : List ℕ
   pub attributes : Attributes given end rest behind
-  pub items : GoesOnItems given.wide draft.flows (draft.entries ++ entry_of draft.name end ∷ []) draft.pairs draft.blocks behind all
+  pub items : GoesOnItems given.wide draft.flows
+      (draft.entries ++ entry_of draft.name end ∷ []) draft.pairs draft.blocks behind all
 
 -- behind an attribute: the entry ends, or a comma and others follow
 pub data GoesBehindAttribute (given : Given) (draft : Draft) (rest : List ℕ) (all : List BlockView) : Type 0 where
   EndEntry : (behind : List ℕ) → TakesSign 93 rest behind
-      → GoesOnItems given.wide draft.flows (draft.entries ++ entry_of draft.name given ∷ []) draft.pairs draft.blocks behind all
+      → GoesOnItems given.wide draft.flows
+      (draft.entries ++ entry_of draft.name given ∷ []) draft.pairs draft.blocks behind all
       → GoesBehindAttribute given draft rest all
   Comma : (behind : List ℕ) → TakesSign 44 rest behind → GoesOnAttributes given draft behind all
       → GoesBehindAttribute given draft rest all
@@ -51,7 +55,8 @@ pub record GoesOnHigh (wide : Bool) (draft : Draft) (rest : List ℕ) (all : Lis
   pub behind : List ℕ
   pub named : is_element_name high ≡ true
   pub word : TakesWord high rest behind
-  pub items : GoesOnItems wide draft.flows draft.entries (draft.pairs ++ record { low = draft.name; high = high } ∷ []) draft.blocks behind all
+  pub items : GoesOnItems wide draft.flows draft.entries
+      (draft.pairs ++ record { low = draft.name; high = high } ∷ []) draft.blocks behind all
 
 -- behind the name of an item
 pub data GoesBehindName (wide : Bool) (draft : Draft) (rest : List ℕ) (all : List BlockView) : Type 0 where
@@ -61,27 +66,31 @@ pub data GoesBehindName (wide : Bool) (draft : Draft) (rest : List ℕ) (all : L
       → GoesBehindName wide draft rest all
 
 -- { and a block's items, behind its attributes
-pub record GoesOnBraced (wide : Bool) (flows : Flows) (blocks : List BlockView) (rest : List ℕ) (all : List BlockView) : Type 0 where
+pub record GoesOnBraced (wide : Bool) (flows : Flows) (blocks : List BlockView) (rest : List ℕ)
+    (all : List BlockView) : Type 0 where
   pub behind : List ℕ
   pub sign : TakesSign 123 rest behind
   pub items : GoesOnItems wide flows [] [] blocks behind all
 
 -- the rest has the other attributes of a block, and then its items
-pub record GoesOnFlows (wide : Bool) (flows : Flows) (blocks : List BlockView) (rest : List ℕ) (all : List BlockView) : Type 0 where
+pub record GoesOnFlows (wide : Bool) (flows : Flows) (blocks : List BlockView) (rest : List ℕ)
+    (all : List BlockView) : Type 0 where
   pub end : Flows
   pub behind : List ℕ
   pub attributes : BlockAttributes flows end rest behind
   pub braced : GoesOnBraced wide end blocks behind all
 
 -- behind an attribute of a block: its items follow, or a comma and others
-pub data GoesBehindFlow (wide : Bool) (flows : Flows) (blocks : List BlockView) (rest : List ℕ) (all : List BlockView) : Type 0 where
+pub data GoesBehindFlow (wide : Bool) (flows : Flows) (blocks : List BlockView) (rest : List ℕ)
+    (all : List BlockView) : Type 0 where
   EndFlows : (behind : List ℕ) → TakesSign 93 rest behind → GoesOnBraced wide flows blocks behind all
       → GoesBehindFlow wide flows blocks rest all
   CommaFlows : (behind : List ℕ) → TakesSign 44 rest behind → GoesOnFlows wide flows blocks behind all
       → GoesBehindFlow wide flows blocks rest all
 
 -- a value of an attribute of a block and what follows it
-pub record GoesOnFlow (wide : Bool) (attribute : BlockAttribute) (flows : Flows) (blocks : List BlockView) (rest : List ℕ) (all : List BlockView) : Type 0 where
+pub record GoesOnFlow (wide : Bool) (attribute : BlockAttribute) (flows : Flows) (blocks : List BlockView)
+    (rest : List ℕ) (all : List BlockView) : Type 0 where
   pub word : List ℕ
   pub then : Flows
   pub behind : List ℕ
@@ -97,7 +106,8 @@ pub record GoesOnOpen (wide : Bool) (draft : Draft) (rest : List ℕ) (all : Lis
   pub items : GoesOnItems wide flows [] [] draft.blocks behind all
 
 -- a value of an attribute and what follows it
-pub record GoesOnValue (attribute : Attribute) (given : Given) (draft : Draft) (rest : List ℕ) (all : List BlockView) : Type 0 where
+pub record GoesOnValue (attribute : Attribute) (given : Given) (draft : Draft) (rest : List ℕ)
+    (all : List BlockView) : Type 0 where
   pub then : Given
   pub behind : List ℕ
   pub value : TakesValue attribute given then rest behind
@@ -105,18 +115,24 @@ pub record GoesOnValue (attribute : Attribute) (given : Given) (draft : Draft) (
 
 -- at a stage the rest is what a text of all these blocks has behind it
 abbrev pub Goes : Stage → Given → Draft → List ℕ → List BlockView → Type 0
-Goes stages.Outside given draft rest all = (more : List BlockView) × IsLatticeText given.wide more rest × (all ≡ draft.blocks ++ more)
-Goes stages.Order given draft rest all = (behind : List ℕ) × TakesWord (codes "order") rest behind × GoesOnOpen given.wide draft behind all
+Goes stages.Outside given draft rest all =
+    (more : List BlockView) × IsLatticeText given.wide more rest × (all ≡ draft.blocks ++ more)
+Goes stages.Order given draft rest all =
+    (behind : List ℕ) × TakesWord (codes "order") rest behind × GoesOnOpen given.wide draft behind all
 Goes stages.Open given draft rest all = GoesOnOpen given.wide draft rest all
 Goes stages.FlowName given draft rest all = GoesOnFlows given.wide draft.flows draft.blocks rest all
-Goes (stages.FlowEquals attribute) given draft rest all = (behind : List ℕ) × TakesSign 61 rest behind × GoesOnFlow given.wide attribute draft.flows draft.blocks behind all
-Goes (stages.FlowValue attribute) given draft rest all = GoesOnFlow given.wide attribute draft.flows draft.blocks rest all
+Goes (stages.FlowEquals attribute) given draft rest all =
+    (behind : List ℕ) × TakesSign 61 rest behind × GoesOnFlow given.wide attribute draft.flows draft.blocks behind all
+Goes (stages.FlowValue attribute) given draft rest all =
+    GoesOnFlow given.wide attribute draft.flows draft.blocks rest all
 Goes stages.Flowed given draft rest all = GoesBehindFlow given.wide draft.flows draft.blocks rest all
 Goes stages.Braced given draft rest all = GoesOnBraced given.wide draft.flows draft.blocks rest all
-Goes stages.Items given draft rest all = GoesOnItems given.wide draft.flows draft.entries draft.pairs draft.blocks rest all
+Goes stages.Items given draft rest all =
+    GoesOnItems given.wide draft.flows draft.entries draft.pairs draft.blocks rest all
 Goes stages.Named given draft rest all = GoesBehindName given.wide draft rest all
 Goes stages.High given draft rest all = GoesOnHigh given.wide draft rest all
 Goes stages.Attribute given draft rest all = GoesOnAttributes given draft rest all
-Goes (stages.Equals attribute) given draft rest all = (behind : List ℕ) × TakesSign 61 rest behind × GoesOnValue attribute given draft behind all
+Goes (stages.Equals attribute) given draft rest all =
+    (behind : List ℕ) × TakesSign 61 rest behind × GoesOnValue attribute given draft behind all
 Goes (stages.Value attribute) given draft rest all = GoesOnValue attribute given draft rest all
 Goes stages.Attributed given draft rest all = GoesBehindAttribute given draft rest all

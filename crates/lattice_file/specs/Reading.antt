@@ -10,7 +10,13 @@ use Rattle.lattice_file.specs.Begins.{IsFirstBad}
 
 -- what a reader has read
 abbrev pub draft_of : Reader → Draft
-draft_of reader = record { name = reader.name; entries = reader.entries.items; pairs = reader.pairs.items; flows = reader.flows; blocks = reader.blocks.items }
+draft_of reader = record {
+  name = reader.name;
+  entries = reader.entries.items;
+  pairs = reader.pairs.items;
+  flows = reader.flows;
+  blocks = reader.blocks.items;
+}
 
 -- where a reader stands
 abbrev pub standing_of : Reader → Standing

@@ -97,7 +97,9 @@ begins_with_dollar (b ∷ c ∷ more) = nat_eq b 36 && is_letter c && list_all i
 
 -- such a word, or one of C's three qualifiers
 abbrev pub is_element_name : List ℕ → Bool
-is_element_name word = begins_with_dollar word || bytes_eq word (codes "const") || bytes_eq word (codes "volatile") || bytes_eq word (codes "restrict")
+is_element_name word =
+    begins_with_dollar word || bytes_eq word (codes "const") || bytes_eq word (codes "volatile")
+    || bytes_eq word (codes "restrict")
 
 -- the word of an attribute
 abbrev pub attribute_word : Attribute → List ℕ
@@ -148,11 +150,13 @@ IsDeref wide word derefs.Access = (wide ≡ true) × (word ≡ codes "access")
 
 -- what a word as the value of an attribute makes of the attributes
 abbrev pub Gives : Attribute → List ℕ → Given → Given → Type 0
-Gives attributes.Level word given then = (level : Level) × IsLevel word level × (then ≡ record given { level = Some level })
+Gives attributes.Level word given then =
+    (level : Level) × IsLevel word level × (then ≡ record given { level = Some level })
 Gives attributes.Sign word given then = (sign : Sign) × IsSign word sign × (then ≡ record given { sign = Some sign })
 Gives attributes.Color word given then = ⊥
 Gives attributes.Write word given then = (word ≡ codes "yes") × (then ≡ record given { write = true })
-Gives attributes.Deref word given then = (deref : Deref) × IsDeref given.wide word deref × (then ≡ record given { deref = deref })
+Gives attributes.Deref word given then =
+    (deref : Deref) × IsDeref given.wide word deref × (then ≡ record given { deref = deref })
 
 -- a value of an attribute
 pub data TakesValue : Attribute → Given → Given → List ℕ → List ℕ → Type 0 where
@@ -168,11 +172,18 @@ pub data Attributes : Given → Given → List ℕ → List ℕ → Type 0 where
       TakesValue attribute given then b2 b3 → TakesSign 93 b3 rest → Attributes given then b0 rest
   More : (attribute : Attribute) (given then end : Given) (b0 b1 b2 b3 b4 rest : List ℕ)
       → has_attribute given attribute ≡ false → TakesWord (attribute_word attribute) b0 b1 → TakesSign 61 b1 b2 →
-      TakesValue attribute given then b2 b3 → TakesSign 44 b3 b4 → Attributes then end b4 rest → Attributes given end b0 rest
+      TakesValue attribute given then b2 b3 → TakesSign 44 b3 b4 → Attributes then end b4 rest
+      → Attributes given end b0 rest
 
 -- an element by its name and its attributes: on values and both ways where they do not say otherwise
 abbrev pub entry_of : List ℕ → Given → Entry
-entry_of name given = record { name = name; level = unwrap_or given.level Value; sign = unwrap_or given.sign Eq; write = given.write; deref = given.deref }
+entry_of name given = record {
+  name = name;
+  level = unwrap_or given.level Value;
+  sign = unwrap_or given.sign Eq;
+  write = given.write;
+  deref = given.deref;
+}
 
 -- of an entry of a file that is read as wider C or not
 abbrev pub no_attribute : Bool → Given
@@ -183,10 +194,12 @@ pub data Items (wide : Bool) : List Entry → List Pair → List ℕ → List �
   Close : (bytes rest : List ℕ) → TakesSign 125 bytes rest → Items wide [] [] bytes rest
   EntryItem : (name : List ℕ) (given : Given) (entries : List Entry) (pairs : List Pair) (b0 b1 b2 b3 rest : List ℕ)
       → is_element_name name ≡ true → TakesWord name b0 b1 → TakesSign 91 b1 b2 →
-      Attributes (no_attribute wide) given b2 b3 → Items wide entries pairs b3 rest → Items wide (entry_of name given ∷ entries) pairs b0 rest
+      Attributes (no_attribute wide) given b2 b3 → Items wide entries pairs b3 rest
+      → Items wide (entry_of name given ∷ entries) pairs b0 rest
   LineItem : (low high : List ℕ) (entries : List Entry) (pairs : List Pair) (b0 b1 b2 b3 rest : List ℕ)
       → is_element_name low ≡ true → is_element_name high ≡ true → TakesWord low b0 b1 → TakesSign 60 b1 b2 →
-      TakesWord high b2 b3 → Items wide entries pairs b3 rest → Items wide entries (record { low = low; high = high } ∷ pairs) b0 rest
+      TakesWord high b2 b3 → Items wide entries pairs b3 rest
+      → Items wide entries (record { low = low; high = high } ∷ pairs) b0 rest
 
 -- the word of an attribute of a block
 abbrev pub block_attribute_word : BlockAttribute → List ℕ
@@ -205,7 +218,8 @@ direction_word Down = codes "down"
 
 -- what a word as the value of an attribute makes of the attributes of a block
 abbrev pub GivesFlow : BlockAttribute → List ℕ → Flows → Flows → Type 0
-GivesFlow Ptrflow word flows then = (direction : Direction) × (word ≡ direction_word direction) × (then ≡ record flows { ptr = Some direction })
+GivesFlow Ptrflow word flows then =
+    (direction : Direction) × (word ≡ direction_word direction) × (then ≡ record flows { ptr = Some direction })
 GivesFlow Fieldflow word flows then = (word ≡ codes "down") × (then ≡ record flows { field = true })
 
 -- an attribute that the block does not have yet, with its value
@@ -238,4 +252,5 @@ pub data IsLatticeText (wide : Bool) : List BlockView → List ℕ → Type 0 wh
   End : (bytes : List ℕ) → Gap bytes [] → IsLatticeText wide [] bytes
   NextBlock : (block : BlockView) (blocks : List BlockView) (b0 b1 b2 b3 rest : List ℕ)
       → TakesWord (codes "partial") b0 b1 → TakesWord (codes "order") b1 b2 → Head block.flows b2 b3 →
-      Items wide block.entries block.pairs b3 rest → 0 < length block.entries → IsLatticeText wide blocks rest → IsLatticeText wide (block ∷ blocks) b0
+      Items wide block.entries block.pairs b3 rest → 0 < length block.entries → IsLatticeText wide blocks rest
+      → IsLatticeText wide (block ∷ blocks) b0

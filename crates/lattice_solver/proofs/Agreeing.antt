@@ -2,6 +2,7 @@
 use Rattle.std.proofs.Common.{◌≡◌, ℕ, List, Some, false, slice_get, refl, sym, ◌∙◌, inl, inr, subst}
 use Rattle.std.specs.Int.{bit_at}
 use Rattle.std.proofs.lemmas.Bool.{cases_eq}
+use Rattle.lattice_core.proofs.Bits.{none_in}
 use Rattle.flow_graph.specs.declared.constraint.Link.TheVariants.{Le, Enter, Leave}
 use Rattle.flow_graph.specs.declared.constraint.Constraint.{Constraint}
 use Rattle.flow_graph.specs.Index.{IsKeyed}
@@ -17,7 +18,6 @@ use Rattle.lattice_solver.specs.Stable.{AgreesAt, IsCarried, IsPassed}
 use Rattle.lattice_solver.specs.Waiting.{waits}
 use Rattle.lattice_solver.specs.Working.{Held, Gains, IsTakenUp, had_of}
 use Rattle.lattice_solver.specs.declared.work.Taken.{Taken}
-use Rattle.lattice_solver.proofs.Bits.{none_in}
 use Rattle.lattice_solver.proofs.Links.{one_link}
 
 -- a flow carries each phase on, an Enter both to the second
@@ -41,12 +41,15 @@ includes_on a b old new p v same keeps all e has = keeps p v e (all e (subst (λ
 pub anew_on : (sys : System) (old new : PhaseSets) (v : ℕ) → ((p : Phase) → set_of new p v ≡ set_of old p v)
     → StartsAnew sys old v → StartsAnew sys new v
 anew_on sys old new v same anew nobody e has =
-    subst (λ set. bit_at set e ≡ 1) (sym (same First)) (anew nobody e (subst (λ set. bit_at set e ≡ 1) (same Second) has))
+    subst (λ set. bit_at set e ≡ 1) (sym (same First))
+    (anew nobody e (subst (λ set. bit_at set e ≡ 1) (same Second) has))
 
 module _ (sys : System) (lattice : ℕ) (rows : List Summary) where
-  module _ (had now : Phase → ℕ) (old new : PhaseSets) (same : (p : Phase) → now p ≡ had p) (keeps : Keeps old new) where
+  module _ (had now : Phase → ℕ) (old new : PhaseSets) (same : (p : Phase) → now p ≡ had p)
+      (keeps : Keeps old new) where
     pub passed_on : (s a m : ℕ) → IsPassed sys lattice rows had old s a m → IsPassed sys lattice rows now new s a m
-    passed_on s a m passed b v st leads one p = includes_on (had p) (now p) old new p v (same p) keeps (passed b v st leads one p)
+    passed_on s a m passed b v st leads one p =
+        includes_on (had p) (now p) old new p v (same p) keeps (passed b v st leads one p)
 
     pub carried_on : (u n : ℕ) → IsCarried sys lattice rows had old u n → IsCarried sys lattice rows now new u n
     carried_on u n carried = record {
@@ -61,16 +64,33 @@ module _ (sys : System) (lattice : ℕ) (rows : List Summary) where
       → (IsKeyed sys link_begins u n → IsCarried sys lattice rows had sets u n)
       → IsCarried sys lattice rows had sets u n
   carried_elsewhere had sets u n carried = record {
-    flow = λ v st. (carried (record { constraint = st.constraint; there = st.there; keyed = subst (λ l. link_begins l ≡ Some u) (sym st.link_is) refl })).flow v st;
-    back = λ s v st. (carried (record { constraint = st.constraint; there = st.there; keyed = subst (λ l. link_begins l ≡ Some u) (sym st.link_is) refl })).back s v st;
-    call = λ s v st. (carried (record { constraint = st.constraint; there = st.there; keyed = subst (λ l. link_begins l ≡ Some u) (sym st.link_is) refl })).call s v st;
-    group = λ s a m st. (carried (record { constraint = st.constraint; there = st.there; keyed = subst (λ l. link_begins l ≡ Some u) (sym st.link_is) refl })).group s a m st;
+    flow = λ v st. (carried (record {
+      constraint = st.constraint;
+      there = st.there;
+      keyed = subst (λ l. link_begins l ≡ Some u) (sym st.link_is) refl;
+    })).flow v st;
+    back = λ s v st. (carried (record {
+      constraint = st.constraint;
+      there = st.there;
+      keyed = subst (λ l. link_begins l ≡ Some u) (sym st.link_is) refl;
+    })).back s v st;
+    call = λ s v st. (carried (record {
+      constraint = st.constraint;
+      there = st.there;
+      keyed = subst (λ l. link_begins l ≡ Some u) (sym st.link_is) refl;
+    })).call s v st;
+    group = λ s a m st. (carried (record {
+      constraint = st.constraint;
+      there = st.there;
+      keyed = subst (λ l. link_begins l ≡ Some u) (sym st.link_is) refl;
+    })).group s a m st;
   }
 
   -- empty sets agree with all
   pub empty_agrees : (sets : PhaseSets) (v : ℕ) → ((p : Phase) → set_of sets p v ≡ 0) → AgreesAt sys lattice rows sets v
   empty_agrees sets v empty =
-      let nothing = λ (p : Phase) (e : ℕ) (has : HasIn sets p v e). none_in e (subst (λ set. bit_at set e ≡ 1) (empty p) has) in
+      let nothing =
+      λ (p : Phase) (e : ℕ) (has : HasIn sets p v e). none_in e (subst (λ set. bit_at set e ≡ 1) (empty p) has) in
       record {
         carried = λ n. record {
           flow = λ w st p e has. absurd (nothing p e has);
@@ -96,15 +116,18 @@ module _ (sys : System) (lattice : ℕ) (rows : List Summary) where
       → AgreesAt sys lattice rows c.sets v
   turn_agrees a b c taken up gains carried agree v quiet = elim (cases_eq v taken.at) [
     | inl is ↦
-        let same : (p : Phase) → set_of c.sets p taken.at ≡ set_of b.sets p taken.at = (gains.still taken.at (subst (λ w. waits c.waiting w ≡ false) is quiet)).1 in
+        let same : (p : Phase) → set_of c.sets p taken.at ≡ set_of b.sets p taken.at =
+        (gains.still taken.at (subst (λ w. waits c.waiting w ≡ false) is quiet)).1 in
         subst (AgreesAt sys lattice rows c.sets) (sym is) (record {
-          carried = λ n. carried_on (had_of taken) (λ p. set_of c.sets p taken.at) c.sets c.sets (λ p. same p ∙ sym (up.had p)) (λ p w e has. has) taken.at n (carried n);
+          carried = λ n. carried_on (had_of taken) (λ p. set_of c.sets p taken.at) c.sets c.sets
+              (λ p. same p ∙ sym (up.had p)) (λ p w e has. has) taken.at n (carried n);
           anew = anew_on sys b.sets c.sets taken.at same up.anew;
         })
     | inr ne ↦
         let late = gains.still v quiet in
         let early = up.others v ne late.0 in
-        agrees_on a.sets c.sets v (λ p w e has. gains.kept p w e (up.kept p w e has)) (λ p. late.1 p ∙ early.1 p) (agree v early.0)
+        agrees_on a.sets c.sets v (λ p w e has. gains.kept p w e (up.kept p w e has)) (λ p. late.1 p ∙ early.1 p)
+        (agree v early.0)
   ]
 
   pub enter_carried : (had : Phase → ℕ) (sets : PhaseSets) (n : ℕ) (constraint : Constraint) (s u a w : ℕ)
@@ -122,5 +145,6 @@ module _ (sys : System) (lattice : ℕ) (rows : List Summary) where
         let e = one_link sys lattice n constraint (Enter s w a) there is (Enter t u b) st in
         let site : s ≡ t = cc in
         let inner : a ≡ b = cc in
-        subst (λ y. IsPassed sys lattice rows had sets y b m) site (subst (λ y. IsPassed sys lattice rows had sets s y m) inner (passed m));
+        subst (λ y. IsPassed sys lattice rows had sets y b m) site
+        (subst (λ y. IsPassed sys lattice rows had sets s y m) inner (passed m));
   }

@@ -1,5 +1,5 @@
 -- Which bounds are exceeded, by the sets of what reaches each variable.
-use Rattle.std.proofs.Common.{◌≡◌, ◌<◌, ℕ, Bool, true, false, slice_get, Some, None, MatchOption, IfNone, IfSome, IsSome, is_some, nat_eq, eq-eqb, refl, sym, ◌∙◌, ap, subst, ◌↔◌, ◌⊎◌, inl, inr}
+use Rattle.std.proofs.Common.{◌≡◌, ◌<◌, ℕ, Bool, true, false, slice_get, Some, None, MatchOption, IfNone, IfSome, IsSome, is_some, nat_eq, eq-eqb, refl, sym, ◌∙◌, ap, subst, ◌↔◌}
 use Rattle.std.specs.Int.{bit_at}
 use Rattle.std.specs.declared.option.Option.{Option}
 use Rattle.std.proofs.lemmas.Bool.{eqb-true}
@@ -14,20 +14,17 @@ use Rattle.flow_laws.specs.Laws.{SolutionStands}
 use Rattle.flow_laws.specs.Least.{IsLeastOver, IsSolution}
 use Rattle.lattice_solver.specs.Solution.{Solution, reached_at, HasElement, IsSolved, IsKept, IsUnder, Exceeds, AllUnder, IsOver}
 use Rattle.flow_graph.specs.declared.phase.Phase.TheVariants.{First}
+use Rattle.flow_graph.proofs.Links.{some_constraint}
 use Rattle.lattice_solver.specs.Phases.{set_of}
 use Rattle.match_summary.specs.Summary.{HasPair}
 use Rattle.lattice_solver.proofs.Leading.{union_leads}
 use Rattle.lattice_solver.proofs.Pairs.{pair_tells, test_of}
 
--- a test comes out one way or the other
-either_way : (b : Bool) → (b ≡ true) ⊎ (b ≡ false)
-either_way true = inl refl
-either_way false = inr refl
-
 pub not_both : {b : Bool} → b ≡ true → b ≡ false → ⊥
 not_both is not = let both : true ≡ false = sym is ∙ not in cc
 
-module _ (sys : System) (solution : Solution) (order : Order) (solved : IsSolved sys solution) (named : NamesElementsIn sys solution.lattice order)
+module _ (sys : System) (solution : Solution) (order : Order) (solved : IsSolved sys solution)
+    (named : NamesElementsIn sys solution.lattice order)
     (lattice : IsLattice order) (stands : SolutionStands) where
   abbrev comes : ℕ → ℕ → Bool
   comes e v = nat_eq (bit_at (reached_at solution v) e) 1
@@ -45,13 +42,11 @@ module _ (sys : System) (solution : Solution) (order : Order) (solved : IsSolved
   pub reached_element : (v e : ℕ) → HasElement solution v e → e < size order
   reached_element v e has = (lattice.ordered.inside e (least.0 v) ((least.1 v).upper e ((leads e v).0 has))).0
 
-  some_is : {x y : Constraint} → Some x ≡ Some y → x ≡ y
-  some_is e = cc
-
   -- a constraint that is no bound of the lattice is no bound that stands
   pub no_bound : (n : ℕ) (c : Constraint) → slice_get sys.constraints n ≡ Some c → IsNoBound c.link solution.lattice →
       (v b : ℕ) → Stands sys solution.lattice n (Bound v solution.lattice b) → ⊥
-  no_bound n c there other v b st = other v b (ap (λ (k : Constraint). k.link) (some_is (sym there ∙ st.there)) ∙ st.link_is)
+  no_bound n c there other v b st =
+      other v b (ap (λ (k : Constraint). k.link) (some_constraint (sym there ∙ st.there)) ∙ st.link_is)
 
   same_bound : {v b w d l : ℕ} → Bound v l b ≡ Bound w l d → (v ≡ w) × (b ≡ d)
   same_bound e = (cc, cc)
@@ -60,7 +55,8 @@ module _ (sys : System) (solution : Solution) (order : Order) (solved : IsSolved
   pub bound_under : (n v b : ℕ) → Stands sys solution.lattice n (Bound v solution.lattice b)
       → AllUnder order (reached_at solution v) b → IsUnder sys solution order n
   bound_under n v b st under w d e other has =
-      let link = sym st.link_is ∙ ap (λ (k : Constraint). k.link) (some_is (sym st.there ∙ other.there)) ∙ other.link_is in
+      let link =
+      sym st.link_is ∙ ap (λ (k : Constraint). k.link) (some_constraint (sym st.there ∙ other.there)) ∙ other.link_is in
       let same = same_bound link in
       let has_here : HasElement solution v e = subst (λ x. HasElement solution x e) (sym same.0) has in
       subst (λ x. leq order e x ≡ true) same.1 (under e (reached_element v e has_here) has_here)
@@ -70,14 +66,16 @@ module _ (sys : System) (solution : Solution) (order : Order) (solved : IsSolved
       MatchOption found (AllUnder order (reached_at solution v) b) (IsOver order (reached_at solution v) b) →
       MatchOption found (IsUnder sys solution order n) (Exceeds sys solution order n)
   found_over n v b st None under = bound_under n v b st under
-  found_over n v b st (Some e) over = record { var = v; limit = b; bound = st; element = over.0; reached = over.1; over = over.2 }
+  found_over n v b st (Some e) over =
+      record { var = v; limit = b; bound = st; element = over.0; reached = over.1; over = over.2 }
 
   module _ (owned : IsWellOwned sys) (law : TestsSolve) where
     abbrev returned : ℕ → ℕ → Bool
     returned e v = nat_eq (bit_at (set_of solution.phases First v) e) 1
 
     returned_is : (e v : ℕ) → (returned e v ≡ true) ↔ Returning sys solution.lattice e v
-    returned_is e v = (λ is. (solved.exact First v e).0 (eqb-true _ 1 is), λ path. eq-eqb _ 1 ((solved.exact First v e).1 path))
+    returned_is e v =
+        (λ is. (solved.exact First v e).0 (eqb-true _ 1 is), λ path. eq-eqb _ 1 ((solved.exact First v e).1 path))
 
     matched : ℕ → ℕ → Bool
     matched u v = (test_of (HasPair solved.summaries u v) (pair_tells solved.summaries u v)).0
@@ -91,17 +89,21 @@ module _ (sys : System) (solution : Solution) (order : Order) (solved : IsSolved
 
     -- the sets and the summaries decide the lattice
     decided : IsDecided sys solution.lattice order
-    decided = law sys solution.lattice order (record { returned = returned; leads = comes; matched = matched }) owned lattice named
+    decided =
+        law sys solution.lattice order
+        (record { returned = returned; leads = comes; matched = matched }) owned lattice named
         (record { returned = returned_is; leads = tested; matched = matched_is })
 
     -- a bound that an element exceeds is exceeded
     pub over_exceeds : (n e : ℕ) → Exceeds sys solution order n e → IsExceeded sys solution.lattice order n
-    over_exceeds n e over = decided.over n over.var over.limit e over.bound ((leads e over.var).0 over.reached) over.over
+    over_exceeds n e over =
+        decided.over n over.var over.limit e over.bound ((leads e over.var).0 over.reached) over.over
 
     -- one that no element exceeds is not
     pub under_keeps : (n : ℕ) → IsUnder sys solution order n → IsExceeded sys solution.lattice order n → ⊥
     under_keeps n under exceeded =
-        decided.under n exceeded.var exceeded.element exceeded.bound (λ e lead. under exceeded.var exceeded.element e exceeded.bound ((leads e exceeded.var).1 lead)) exceeded
+        decided.under n exceeded.var exceeded.element exceeded.bound
+        (λ e lead. under exceeded.var exceeded.element e exceeded.bound ((leads e exceeded.var).1 lead)) exceeded
 
     -- the bound is exceeded exactly where an element over it is found
     pub found_exceeds : (n : ℕ) (found : Option ℕ)

@@ -11,8 +11,10 @@ use Rattle.lattice_solver.specs.declared.turns.Flows.{Flows}
 use Rattle.lattice_solver.proofs.Carried.{raised_keeps}
 
 pub gains_same : (held : Held) → Gains held held
-gains_same held = record { size = refl; left = omega arith; kept = λ p v e has. has; still = λ v quiet. (quiet, λ p. refl) }
+gains_same held =
+    record { size = refl; left = omega arith; kept = λ p v e has. has; still = λ v quiet. (quiet, λ p. refl) }
 
+-- sets that gain twice have gained
 pub gains_then : (a b c : Held) → Gains a b → Gains b c → Gains a c
 gains_then a b c one other = record {
   size = other.size ∙ one.size;
@@ -30,8 +32,10 @@ not_waiting is not = let both : true ≡ false = sym is ∙ not in cc
 -- a set was raised, and its variable waits
 pub gained : (old new : Held) (phase : Phase) (at elems : ℕ) → room_of new.sets < room_of old.sets
     → size_of new.sets ≡ size_of old.sets →
-    set_of new.sets phase at ≡ bit_or (set_of old.sets phase at) elems → ((p : Phase) (v : ℕ) → (p ≡ phase → v ≢ at) → set_of new.sets p v ≡ set_of old.sets p v) →
-    waits new.waiting at ≡ true → ((v : ℕ) → v ≢ at → waits new.waiting v ≡ waits old.waiting v) → new.waiting.count ≤ old.waiting.count + 1 → Gains old new
+    set_of new.sets phase at ≡ bit_or (set_of old.sets phase at) elems
+    → ((p : Phase) (v : ℕ) → (p ≡ phase → v ≢ at) → set_of new.sets p v ≡ set_of old.sets p v) →
+    waits new.waiting at ≡ true → ((v : ℕ) → v ≢ at → waits new.waiting v ≡ waits old.waiting v)
+    → new.waiting.count ≤ old.waiting.count + 1 → Gains old new
 gained old new phase at elems less size here others is_waiting wait count = record {
   size = size;
   left = omega (arith, less, count);

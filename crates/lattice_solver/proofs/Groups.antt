@@ -28,7 +28,9 @@ module _ (sys : System) (lattice : ℕ) (rows : List Summary) where
   pub leads_matches : (a b : ℕ) → Summarises sys lattice rows → Leads rows a b → AreOfOne sys a b
       → (g : ℕ) × Matches sys lattice g a b
   leads_matches a b whole (inl same) one = (one.0, subst (λ x. Matches sys lattice one.0 a x) same (stay one.0 a one.1))
-  leads_matches a b whole (inr pair) one = let path = whole.sound a b pair in (path.0, longer path.0 a path.1 b path.2 path.3)
+  leads_matches a b whole (inr pair) one =
+      let path = whole.sound a b pair in
+      (path.0, longer path.0 a path.1 b path.2 path.3)
 
   -- and the other way round, from the inner end of an Enter
   pub matches_leads : (g a b : ℕ) → Summarises sys lattice rows → IsInnerEnd sys lattice a → Matches sys lattice g a b
@@ -43,5 +45,9 @@ module _ (sys : System) (lattice : ℕ) (rows : List Summary) where
   pub group_leads : (s u a b v n m : ℕ) → Summarises sys lattice rows → Stands sys lattice n (Enter s u a)
       → Stands sys lattice m (Leave s b v) → Leads rows a b → AreOfOne sys a b →
       (p : Phase) (e : ℕ) → LeadsIn sys lattice p e u → LeadsIn sys lattice p e v
-  group_leads s u a b v n m whole enter leave leads one First e path = let inside = leads_matches a b whole leads one in grouped u a b v s inside.0 n m path enter inside.1 leave
-  group_leads s u a b v n m whole enter leave leads one Second e path = let inside = leads_matches a b whole leads one in grouped_on u a b v s inside.0 n m path enter inside.1 leave
+  group_leads s u a b v n m whole enter leave leads one First e path =
+      let inside = leads_matches a b whole leads one in
+      grouped u a b v s inside.0 n m path enter inside.1 leave
+  group_leads s u a b v n m whole enter leave leads one Second e path =
+      let inside = leads_matches a b whole leads one in
+      grouped_on u a b v s inside.0 n m path enter inside.1 leave

@@ -1,5 +1,4 @@
 mod Agreeing
-mod Bits
 mod Carried
 mod Exact
 mod Exceeding

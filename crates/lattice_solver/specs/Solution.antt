@@ -1,6 +1,5 @@
 -- What a solver holds: its lattice, the sets of the constants that reach each variable in each phase, where the
--- constraints
--- begin and end, the calls and returns by their inner ends, and the sets that were carried round groups.
+-- constraints begin and end, the calls and returns by their inner ends, and the sets that were carried round groups.
 use Rattle.std.specs.Prelude.{◌≡◌, ◌<◌, ◌≤◌, ℕ, List, length, true, false, bit_or, ◌↔◌}
 use Rattle.std.specs.Int.{bit_at}
 use Rattle.lattice_core.specs.Order.{Order, size, leq, IsJoinOf}
@@ -42,8 +41,7 @@ pub record Fits (sys : System) (solution : Solution) : Type 0 where
   pub room : length sys.constraints ≤ size_of solution.passed
 
 -- Its sets have exactly what leads to each variable in each phase, by the summaries of the system, and its index is
--- that of
--- the constraints.
+-- that of the constraints.
 pub record IsSolved (sys : System) (solution : Solution) : Type 0 where
   pub exact : (p : Phase) (v e : ℕ) → HasIn solution.phases p v e ↔ LeadsIn sys solution.lattice p e v
   pub summaries : List Summary
@@ -61,7 +59,8 @@ pub record Exceeds (sys : System) (solution : Solution) (order : Order) (n e : �
 
 -- No element exceeds a constraint: where it is a bound, all that reaches its variable is at or below it.
 abbrev pub IsUnder : System → Solution → Order → ℕ → Type 0
-IsUnder sys solution order n = (v limit e : ℕ) → Stands sys solution.lattice n (Bound v solution.lattice limit) → HasElement solution v e →
+IsUnder sys solution order n =
+    (v limit e : ℕ) → Stands sys solution.lattice n (Bound v solution.lattice limit) → HasElement solution v e →
     leq order e limit ≡ true
 
 -- the first constraint that an element exceeds
@@ -83,8 +82,7 @@ pub record IsMetAtOnce (sys : System) (solution : Solution) (order : Order) : Ty
   pub below : (v r : ℕ) (sites : List ℕ) → Printed sys solution.lattice order v r → leq order (copies v sites) r ≡ true
 
 -- No bound is exceeded: the system is accepted in the lattice, the least element over the set of a variable is the one
--- that
--- is printed, and all of them can be kept at once.
+-- that is printed, and all of them can be kept at once.
 pub record IsKept (sys : System) (solution : Solution) (order : Order) : Type 0 where
   pub accepted : IsAcceptedIn sys solution.lattice order
   pub none : (n : ℕ) → IsExceeded sys solution.lattice order n → ⊥

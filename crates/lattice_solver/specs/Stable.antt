@@ -24,10 +24,10 @@ pub record AreOfSystem (flows : Flows) (vars : ℕ) : Type 0 where
 
 module _ (sys : System) (lattice : ℕ) (rows : List Summary) where
   -- the group of an Enter of a site to a variable and of a constraint that leaves from another brings sets from its
-  -- beginning
-  -- to its end
+  -- beginning to its end
   abbrev pub IsPassedFrom : (Phase → ℕ) → PhaseSets → ℕ → ℕ → ℕ → ℕ → Type 0
-  IsPassedFrom had sets site inner b leave = (v : ℕ) → Stands sys lattice leave (Leave site b v) → Leads rows inner b → AreOfOne sys inner b →
+  IsPassedFrom had sets site inner b leave =
+      (v : ℕ) → Stands sys lattice leave (Leave site b v) → Leads rows inner b → AreOfOne sys inner b →
       (p : Phase) → Includes (had p) sets p v
 
   -- from whatever variable it leaves
@@ -35,8 +35,7 @@ module _ (sys : System) (lattice : ℕ) (rows : List Summary) where
   IsPassed had sets site inner leave = (b : ℕ) → IsPassedFrom had sets site inner b leave
 
   -- What an Enter has is at the end of each group of its site that begins at its variable, and what a Leave has at the
-  -- end
-  -- of each Leave of its site from its variable.
+  -- end of each Leave of its site from its variable.
   pub record IsOver (passed sets : PhaseSets) : Type 0 where
     pub room : length sys.constraints ≤ size_of passed
     pub groups : (n s u a m : ℕ) → Has sys n (Enter s u a) → IsPassed (λ p. set_of passed p n) sets s a m

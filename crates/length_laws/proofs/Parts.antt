@@ -1,9 +1,6 @@
 -- Parts of texts without ops, and parts of tapes that are no tree's of their own.
-use Rattle.std.proofs.Common.{◌≡◌, ℕ, ◌+◌, All, Any, Bool, true, false, List, [], ◌∷◌, ◌++◌, Option, None, Some, length, nat_eq, inl, inr, sym, arith, lit≤, IsPermutation}
+use Rattle.std.proofs.Common.{ℕ, ◌+◌, All, Bool, true, false, List, [], ◌∷◌, ◌++◌, Option, None, Some, arith, lit≤}
 use Rattle.std.proofs.lemmas.List.Elements.{All-head, All-tail}
-use Rattle.std.proofs.lemmas.List.Folds.{list_any-from_Any}
-use Rattle.std.proofs.lemmas.List.Sorted.{length_permutation}
-use Rattle.std.proofs.lemmas.Bool.{eq-eqb}
 use Rattle.std.specs.Prelude.{if◌then◌else◌}
 use Rattle.c_words.specs.declared.kinds.Punct.{Punct}
 use Rattle.c_words.specs.declared.kinds.Punct.TheVariants as signs
@@ -22,26 +19,13 @@ use Rattle.c_syntax.specs.declared.parts.ArrayWord.TheVariants as array_words
 use Rattle.tape_ops.specs.declared.op.Op.{Op}
 use Rattle.tape_ops.specs.declared.specifier.TagKind.{TagKind}
 use Rattle.c_tree.specs.declared.lexeme.Lexeme.{Lexeme}
-use Rattle.c_tree.specs.Tree.{Expr, no_words, Params, no_params, more_params, Dots}
+use Rattle.c_tree.specs.Tree.{Expr, Params, no_params, more_params, Dots}
 use Rattle.c_tree.specs.Text.{other_names_text, names_text, some_sign_text, words_text, extensions_text, texts_text, group_text, tokens_between, attrs_text, label_text, assert_text, qual_text, quals_text, pointer_words_text, array_words_text, dots_text}
-use Rattle.c_tree.specs.Specifiers.{IsMix, basic_types}
 use Rattle.c_tree.specs.WellFormed.{IsElement, IsQual, IsWordQual, IsPointerWord, IsArrayWord, IsEllipsis}
 use Rattle.c_tape.specs.Tape.{identifiers_tape, prefix_tape, qual_tape, quals_tape, pointer_words_tape, array_words_tape, dots_tape, tag_tape, body_tape, quietly, in_scope, specs_with, type_name_with, params_with}
 use Rattle.length_laws.proofs.Lengths.{Fits, FitBoth, nothing, one, so, join, skip, ends, skips, text_only, first_of}
 
 -- specifiers are no mix without a word
-
--- no basic type is made of no words
-no_type_of_none : Any (IsPermutation []) basic_types → ⊥
-no_type_of_none (at, set, less, is, same) =
-    let long : 0 ≡ length set = sym (length_permutation [] set same) in
-    let yes = list_any-from_Any (λ set. nat_eq 0 (length set)) basic_types (at, set, less, is, eq-eqb 0 (length set) long) in
-    let wrong : true ≡ false = sym yes in
-    absurd cc
-
-pub no_mix_of_none : IsMix no_words → ⊥
-no_mix_of_none (inl one, stores) = no_type_of_none one.1
-no_mix_of_none (inr one, stores) = let zero_is_one : 0 ≡ 1 = one.0 in omega (arith, zero_is_one)
 
 -- one of two tapes
 
@@ -174,7 +158,8 @@ module _ (all : List Lexeme) where
       → Fits 0 0 (quals_tape qs) (quals_text all qs k) k
   quals_fit [] h = nothing
   quals_fit (q ∷ qs) h =
-      so (join (qual_fits q (All-head (IsWordQual all) q qs h).0) (quals_fit qs (All-tail (IsWordQual all) q qs h))) (lit≤ tt)
+      so (join (qual_fits q (All-head (IsWordQual all) q qs h).0)
+      (quals_fit qs (All-tail (IsWordQual all) q qs h))) (lit≤ tt)
 
   pub pointer_words_fit : (words : List PointerWord) → All (IsPointerWord all) words → {k : List Lexeme} →
       Fits 0 0 (pointer_words_tape words) (pointer_words_text all words k) k
@@ -183,7 +168,8 @@ module _ (all : List Lexeme) where
       so (join (qual_fits q (All-head (IsPointerWord all) (pointer_words.Qual q) words h))
       (pointer_words_fit words (All-tail (IsPointerWord all) (pointer_words.Qual q) words h))) (lit≤ tt)
   pointer_words_fit (pointer_words.Attr attr ∷ words) h =
-      attrs_skip all (attr ∷ []) (pointer_words_fit words (All-tail (IsPointerWord all) (pointer_words.Attr attr) words h))
+      attrs_skip all (attr ∷ [])
+      (pointer_words_fit words (All-tail (IsPointerWord all) (pointer_words.Attr attr) words h))
 
   pub array_words_fit : (words : List ArrayWord) → All (IsArrayWord all) words → {k : List Lexeme} →
       Fits 0 0 (array_words_tape words) (array_words_text all words k) k

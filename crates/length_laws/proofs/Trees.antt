@@ -13,22 +13,16 @@ use Rattle.c_tree.specs.declared.lexeme.Lexeme.{Lexeme}
 use Rattle.c_tree.specs.Tree.{Expr, operation, cast, prefix, sizeof_value, sizeof_type, extension, index, call, dot, arrow, post, compound, name_use, number_use, char_use, text_use, paren, statement_expr, va_arg, va_start, va_copy, offset, Operator, comma, assign, cond, binary, SomeExpr, no_expr, some_expr, Exprs, no_exprs, more_exprs, SpecWords, no_words, more_words, SpecWord, storage, thread, inline_word, noreturn, qualifier, basic, struct_type, enum_type, typedef_name, attribute, SomeBody, no_body, some_body, StructItems, no_struct_items, more_struct_items, StructItem, member, member_semi, member_assert, MemDeclrs, no_mem_declrs, more_mem_declrs, MemDeclr, named, unnamed, SomeValue, no_value, some_value, EnumType, enum_of, SomeEnumBody, no_enum_body, some_enum_body, Enumerators, no_enumerators, more_enumerators, Declr, pointer, declr_name, declr_paren, array, params, abs_pointer, abs_paren, abs_array, abs_params, SomeDeclr, no_declr, some_declr, SomeSize, no_size, some_size, ArraySize, size_value, size_star, Params, no_params, more_params, Init, init_value, init_braced, InitList, init_list, InitItems, no_init_items, more_init_items, Desigs, no_desigs, more_desigs, Desig, member_desig, index_desig, SomeInit, no_init, some_init, InitDeclrs, no_init_declrs, more_init_declrs, Declaration, declaration, Decl, decl_declaration, decl_assert, BlockItems, no_block_items, more_block_items, BlockItem, block_decl, block_stmt, Stmt, block, expr_stmt, attr_stmt, label, case_stmt, default_stmt, if_stmt, switch_stmt, while_stmt, do_stmt, for_stmt, goto_stmt, continue_stmt, break_stmt, return_stmt, asm_stmt, SomeElse, no_else, some_else, ForStart, start_declaration, start_value, complex_part, label_use, compat, choose, generic, Assocs, no_assocs, more_assocs, Assoc, typed_assoc, default_assoc, typeof_value, typeof_type, align, auto_word, identifiers, base_name, range_desig, old_desig, block_labels, case_range, goto_value}
 use Rattle.c_tree.specs.Text.{assocs_text, assoc_text, texts_text, expr_text, operator_text, some_expr_text, exprs_text, other_exprs_text, spec_words_text, spec_word_text, some_body_text, struct_items_text, struct_item_text, mem_declrs_text, other_mem_declrs_text, mem_declr_text, some_value_text, enum_type_text, some_enum_body_text, enumerators_text, other_enumerators_text, declr_text, some_declr_text, some_size_text, array_size_text, params_text, other_params_text, init_text, init_list_text, init_items_text, other_init_items_text, desigs_text, desig_text, some_init_text, init_declrs_text, other_init_declrs_text, declaration_text, decl_text, block_items_text, block_item_text, stmt_text, some_else_text, for_start_text}
 use Rattle.c_tree.specs.Specifiers.{IsMix}
-use Rattle.c_tree.specs.WellFormed.{AreAssocs, IsAssoc, IsExpr, IsMiddle, IsSomeExpr, AreArguments, AreSteps, IsStep, AreDesigs, IsDesig, AreTypeWords, AreSpecWords, IsSpecWord, IsBody, AreStructItems, IsStructItem, AreMemDeclrs, IsMemDeclr, IsSomeValue, IsEnum, IsEnumBody, AreEnumerators, IsDeclr, IsSomeAbstract, IsSomeDirect, IsSize, IsArraySize, AreParams, IsSomeDeclr, IsInit, IsInitList, AreInitItems, IsSomeInit, AreInitDeclrs, IsDeclaration, IsDecl, AreBlockItems, IsBlockItem, IsStmt, IsOther, IsStart}
+use Rattle.c_tree.specs.WellFormed.{AreAssocs, IsAssoc, IsExpr, IsMiddle, IsSomeExpr, AreArguments, AreSteps, IsStep, AreDesigs, IsDesig, AreTypeWords, AreSpecWords, IsSpecWord, IsBody, AreStructItems, IsStructItem, AreMemDeclrs, IsMemDeclr, IsSomeValue, IsEnum, IsEnumBody, AreEnumerators, IsDeclr, IsSomeAbstract, IsSize, IsArraySize, AreParams, IsSomeDeclr, IsInit, IsInitList, AreInitItems, IsSomeInit, AreInitDeclrs, IsDeclaration, IsDecl, AreBlockItems, IsBlockItem, IsStmt, IsOther, IsStart}
 use Rattle.c_tree.specs.Unit.{Item, function_item, old_function_item, decl_item, asm_item, semi_item, IsItem, declarations_text, item_text, items_text}
 use Rattle.c_tree.specs.Ends.{first_token, last_token, first_text}
 use Rattle.c_tree.specs.Firsts.{first_word}
+use Rattle.c_tree.proofs.Weaker.{abstract_is, direct_is}
+use Rattle.c_tree.proofs.NoType.{no_mix_of_none}
 use Rattle.c_tape.specs.Tests.{are_auto, is_void, tag_kind, says_none}
 use Rattle.c_tape.specs.Tape.{expr, arguments, pieces, some_pieces, desig_tape, desigs_tape, rule, rule_of_list, rule_of_items, tape_in, assocs_tape, assoc_tape, auto_declrs_tape, auto_init_tape, old_contents, old_declrs_tape, old_declaration_tape, old_declarations_tape, operator_tape, middle_tape, some_expr_tape, exprs_tape, dropped_tape, steps_tape, step_tape, words_tape, word_tape, unnamed_tape, unnamed_word_tape, specs_with, struct_tape, struct_items_tape, struct_item_tape, members_tape, mem_declrs_tape, mem_declr_tape, some_value_tape, enum_tape, enum_body_tape, enumerators_tape, some_declr_tape, contents, some_contents, some_size_tape, size_tape, params_tape, init_tape, list_tape, init_items_tape, indices_tape, index_tape, some_init_tape, init_declrs_tape, declaration_tape, decl_tape, block_items_tape, block_item_tape, stmt_tape, some_else_tape, for_start_tape, return_tape, item_tape, tape_of}
 use Rattle.length_laws.proofs.Lengths.{Fits, FitBoth, nothing, elsewhere, one, so, join, goes_on, makes_room, text_only, first_of, past, both_so, pair, crossed, side_by_side, inside_out, before, both_past, join_both, join_parted, skip, ends, both_skip, first_only, second_only, one_by_one, listed}
-use Rattle.length_laws.proofs.Parts.{no_mix_of_none, either, quiet_fits, scope_fits, prefix_fits, names_skip, names_fit, specs_fit, params_fit, type_name_fits, tag_fits, body_fits, some_sign_skip, words_skip, extensions_skip, texts_skip, group_skip, attrs_skip, label_skip, assert_skip, qual_fits, pointer_words_fit, array_words_fit, dots_fit}
-
-abstract_is : (all : List Lexeme) (d : SomeDeclr) → IsSomeAbstract all d → IsSomeDeclr all d
-abstract_is all no_declr h = tt
-abstract_is all (some_declr d) h = h.0
-
-direct_is : (all : List Lexeme) (d : SomeDeclr) → IsSomeDirect all d → IsSomeDeclr all d
-direct_is all no_declr h = tt
-direct_is all (some_declr d) h = h.0
+use Rattle.length_laws.proofs.Parts.{either, quiet_fits, scope_fits, prefix_fits, names_skip, names_fit, specs_fit, params_fit, type_name_fits, tag_fits, body_fits, some_sign_skip, words_skip, extensions_skip, texts_skip, group_skip, attrs_skip, label_skip, assert_skip, qual_fits, pointer_words_fit, array_words_fit, dots_fit}
 
 module _ (all : List Lexeme) where
   texts_fit : (texts : List ℕ) → texts ≢ [] → {k : List Lexeme} →
@@ -42,13 +36,15 @@ module _ (all : List Lexeme) where
     expr_fits : (e : Expr) → IsExpr all e → (called aims : Bool) → {k : List Lexeme} →
         Fits 0 1 (tape_in called aims e) (expr_text all e k) k
     expr_fits (operation e op token e2) h called aims =
-        operator_fits op h.3 token (first_token e) (last_token e2) (expr_fits e h.0 false false) (expr_fits e2 h.1 false false)
+        operator_fits op h.3 token (first_token e) (last_token e2) (expr_fits e h.0 false false)
+        (expr_fits e2 h.1 false false)
     expr_fits (cast opening ws d closing e) h called aims =
         so (skip (join (join (type_name_fits (first_word ws) (type_words_fit ws h.1) (abstract_fits d h.2))
         (skip (expr_fits e h.3 false false))) one)) (lit≤ tt)
     expr_fits (prefix token p e) h called aims =
         so (skip (prefix_fits token p e aims (expr_fits e h.0 false true) (expr_fits e h.0 false false))) (lit≤ tt)
-    expr_fits (sizeof_value word e) h called aims = so (skip (join (join one (expr_fits e h.0 false false)) one)) (lit≤ tt)
+    expr_fits (sizeof_value word e) h called aims =
+        so (skip (join (join one (expr_fits e h.0 false false)) one)) (lit≤ tt)
     expr_fits (sizeof_type word opening ws d closing) h called aims =
         so (skip (skip (ends (join (join one
         (type_name_fits (first_word ws) (type_words_fit ws h.1) (abstract_fits d h.2))) one)))) (lit≤ tt)
@@ -58,10 +54,12 @@ module _ (all : List Lexeme) where
     expr_fits (call e opening es closing) h called aims =
         so (ends (join (join_both (expr_fits e h.0 true false) (both_skip (exprs_fit es h.1))) one)) (lit≤ tt)
     expr_fits (dot e token name) h called aims = so (join (expr_fits e h.0 false aims) (skip (skip one))) (lit≤ tt)
-    expr_fits (arrow e token name) h called aims = so (join (join (expr_fits e h.0 false false) (skip (skip one))) one) (lit≤ tt)
+    expr_fits (arrow e token name) h called aims =
+        so (join (join (expr_fits e h.0 false false) (skip (skip one))) one) (lit≤ tt)
     expr_fits (post e token p) h called aims = so (join (expr_fits e h.0 false false) (skip one)) (lit≤ tt)
     expr_fits (compound opening ws d closing list) h called aims =
-        so (skip (join (join_parted (join (type_name_fits (first_word ws) (type_words_fit ws h.1) (abstract_fits d h.2)) one)
+        so (skip
+        (join (join_parted (join (type_name_fits (first_word ws) (type_words_fit ws h.1) (abstract_fits d h.2)) one)
         (both_skip (list_fits list h.3)) one) one)) (lit≤ tt)
     expr_fits (name_use token name) h called aims = so (skip one) (lit≤ tt)
     expr_fits (number_use token) h called aims = so (skip one) (lit≤ tt)
@@ -74,9 +72,11 @@ module _ (all : List Lexeme) where
         so (skip (skip (ends (join (join (expr_fits e h.0 false false)
         (skip (type_name_fits (first_word ws) (type_words_fit ws h.2) (abstract_fits d h.3)))) one)))) (lit≤ tt)
     expr_fits (va_start keyword opening e separator e2 closing) h called aims =
-        so (skip (skip (ends (join (join (expr_fits e h.0 false false) (skip (expr_fits e2 h.1 false false))) one)))) (lit≤ tt)
+        so (skip
+        (skip (ends (join (join (expr_fits e h.0 false false) (skip (expr_fits e2 h.1 false false))) one)))) (lit≤ tt)
     expr_fits (va_copy keyword opening e separator e2 closing) h called aims =
-        so (skip (skip (ends (join (join (expr_fits e h.0 false false) (skip (expr_fits e2 h.1 false false))) one)))) (lit≤ tt)
+        so (skip
+        (skip (ends (join (join (expr_fits e h.0 false false) (skip (expr_fits e2 h.1 false false))) one)))) (lit≤ tt)
     expr_fits (offset keyword opening ws d separator name steps closing) h called aims =
         so (skip (skip (ends (join (join (join (join one
         (type_name_fits (first_word ws) (type_words_fit ws h.1) (abstract_fits d h.2))) (skip (skip one)))
@@ -91,7 +91,8 @@ module _ (all : List Lexeme) where
         so (skip (skip (ends (join (join (join (quiet_fits (expr_fits e h.0 false false))
         (skip (expr_fits e2 h.1 false false))) (skip (expr_fits e3 h.2 false false))) one)))) (lit≤ tt)
     expr_fits (generic keyword opening e xs closing) h called aims =
-        so (skip (skip (ends (join (join (join (join one (expr_fits e h.0 false false)) one) (assocs_fit xs h.3)) one))))
+        so
+        (skip (skip (ends (join (join (join (join one (expr_fits e h.0 false false)) one) (assocs_fit xs h.3)) one))))
         (lit≤ tt)
 
     assocs_fit : (xs : Assocs) → AreAssocs all xs → {k : List Lexeme}
@@ -183,7 +184,8 @@ module _ (all : List Lexeme) where
         both_so (first_only (skip (either (is_void word.keyword) one (so nothing (lit≤ tt))))) (lit≤ tt)
     word_fits (struct_type word attrs None no_body) h is_alone = absurd h.2
     word_fits (struct_type word attrs None (some_body opening items closing)) h is_alone =
-        both_so (both_skip (pair (attrs_skip all attrs (ends (join (join (body_fits (tag_kind word.keyword) word.token None)
+        both_so (both_skip
+        (pair (attrs_skip all attrs (ends (join (join (body_fits (tag_kind word.keyword) word.token None)
         (skip (struct_items_fit items h.3))) one))) one)) (lit≤ tt)
     word_fits (struct_type word attrs (Some tag) body) h is_alone =
         both_so (first_only (skip (attrs_skip all attrs (skip
@@ -192,7 +194,8 @@ module _ (all : List Lexeme) where
     word_fits (typedef_name name) h is_alone = both_so (first_only (skip one)) (lit≤ tt)
     word_fits (attribute attr) h is_alone = both_so (first_only (skip (group_skip all attr.group nothing))) (lit≤ tt)
     word_fits (typeof_value keyword opening e closing) h is_alone =
-        both_so (first_only (skip (skip (ends (join (join (join (join one one) (expr_fits e h false false)) one) one)))))
+        both_so
+        (first_only (skip (skip (ends (join (join (join (join one one) (expr_fits e h false false)) one) one)))))
         (lit≤ tt)
     word_fits (typeof_type word opening ws d closing) h is_alone =
         both_so (first_only (skip (skip (ends (join (join one
@@ -226,7 +229,8 @@ module _ (all : List Lexeme) where
         Fits 1 0 (specs_with (words_tape false ws) ++ members_tape ws ds) t k
     members_fit no_mem_declrs h ws p = so (join_parted nothing p one) (lit≤ tt)
     members_fit (more_mem_declrs attrs d ds) h ws p =
-        so (join (specs_fit p) (attrs_skip all attrs (join (mem_declr_fits d h.1) (other_mem_declrs_fit ds h.2)))) (lit≤ tt)
+        so (join (specs_fit p)
+        (attrs_skip all attrs (join (mem_declr_fits d h.1) (other_mem_declrs_fit ds h.2)))) (lit≤ tt)
 
     other_mem_declrs_fit : (ds : MemDeclrs) → AreMemDeclrs all ds → {k : List Lexeme} →
         Fits 0 0 (mem_declrs_tape ds) (other_mem_declrs_text all ds k) k
@@ -265,13 +269,15 @@ module _ (all : List Lexeme) where
         Fits 0 0 (enumerators_tape es) (enumerators_text all es k) k
     enumerators_fit no_enumerators h = nothing
     enumerators_fit (more_enumerators name attrs value es) h =
-        so (skip (attrs_skip all attrs (join (join (some_value_fits value h.1 Equal) one) (other_enumerators_fit es h.2)))) (lit≤ tt)
+        so (skip (attrs_skip all attrs
+        (join (join (some_value_fits value h.1 Equal) one) (other_enumerators_fit es h.2)))) (lit≤ tt)
 
     other_enumerators_fit : (es : Enumerators) → AreEnumerators all es → {k : List Lexeme} →
         Fits 0 0 (enumerators_tape es) (other_enumerators_text all es k) k
     other_enumerators_fit no_enumerators h = nothing
     other_enumerators_fit (more_enumerators name attrs value es) h =
-        so (skip (skip (attrs_skip all attrs (join (join (some_value_fits value h.1 Equal) one) (other_enumerators_fit es h.2)))))
+        so (skip (skip
+        (attrs_skip all attrs (join (join (some_value_fits value h.1 Equal) one) (other_enumerators_fit es h.2)))))
         (lit≤ tt)
 
     -- declarators
@@ -292,25 +298,31 @@ module _ (all : List Lexeme) where
         both_so (before (skip (join (pointer_words_fit all words h.0) one)) (declr_fits d h.1 is_own)) (lit≤ tt)
     declr_fits (declr_name token name) h is_own = both_so (first_only (skip one)) (lit≤ tt)
     declr_fits (declr_paren opening attrs d closing) h is_own =
-        both_so (both_past (before (skip (attrs_skip all attrs nothing)) (declr_fits d h.1 is_own)) (skip nothing)) (lit≤ tt)
+        both_so
+        (both_past (before (skip (attrs_skip all attrs nothing)) (declr_fits d h.1 is_own)) (skip nothing)) (lit≤ tt)
     declr_fits (array d opening words size closing) h is_own =
         both_so (inside_out (declr_fits d h.0 is_own)
         (crossed (skip (join (array_words_fit all words h.3) one)) (ends (some_size_fits size h.4)))) (lit≤ tt)
     declr_fits (params d opening ps dots closing) h is_own =
         both_so (inside_out (declr_fits d h.0 is_own)
-        (pair (params_fit _ (says_none ps) (params_fits ps h.3)) (ends (join (dots_fit all ps dots h.4) one)))) (lit≤ tt)
+        (pair (params_fit _ (says_none ps) (params_fits ps h.3)) (ends (join (dots_fit all ps dots h.4) one))))
+        (lit≤ tt)
     declr_fits (abs_pointer star words d) h is_own =
-        both_so (before (skip (join (pointer_words_fit all words h.0) one)) (parts_fit d (abstract_is all d h.1))) (lit≤ tt)
+        both_so
+        (before (skip (join (pointer_words_fit all words h.0) one)) (parts_fit d (abstract_is all d h.1))) (lit≤ tt)
     declr_fits (abs_paren opening attrs d closing) h is_own =
-        both_so (both_past (before (skip (attrs_skip all attrs nothing)) (declr_fits d h.1 is_own)) (skip nothing)) (lit≤ tt)
+        both_so
+        (both_past (before (skip (attrs_skip all attrs nothing)) (declr_fits d h.1 is_own)) (skip nothing)) (lit≤ tt)
     declr_fits (abs_array d opening words size closing) h is_own =
         both_so (inside_out (parts_fit d (direct_is all d h.0))
         (crossed (skip (join (array_words_fit all words h.1) one)) (ends (some_size_fits size h.2)))) (lit≤ tt)
     declr_fits (abs_params d opening ps dots closing) h is_own =
         both_so (inside_out (parts_fit d (direct_is all d h.0))
-        (pair (params_fit false (says_none ps) (params_fits ps h.1)) (ends (join (dots_fit all ps dots h.2) one)))) (lit≤ tt)
+        (pair (params_fit false (says_none ps) (params_fits ps h.1)) (ends (join (dots_fit all ps dots h.2) one))))
+        (lit≤ tt)
     declr_fits (identifiers d opening names closing) h is_own =
-        both_so (goes_on (goes_on (before one (declr_fits d h.0 is_own)) one) (skip (names_skip names (skip one)))) (lit≤ tt)
+        both_so
+        (goes_on (goes_on (before one (declr_fits d h.0 is_own)) one) (skip (names_skip names (skip one)))) (lit≤ tt)
     declr_fits (base_name token) h is_own = both_so (first_only (skip nothing)) (lit≤ tt)
 
     parts_fit : (d : SomeDeclr) → IsSomeDeclr all d → {k : List Lexeme} →
@@ -352,13 +364,15 @@ module _ (all : List Lexeme) where
     list_fits : (list : InitList) → IsInitList all list → {k : List Lexeme} →
         FitBoth 0 2 (list_tape list) (rule_of_list list) (init_list_text all list k) k
     list_fits (init_list opening items last closing) h =
-        both_so (both_skip (both_past (listed one (init_items_fit items h.0) one) (some_sign_skip Comma last (skip nothing)))) (lit≤ tt)
+        both_so (both_skip
+        (both_past (listed one (init_items_fit items h.0) one) (some_sign_skip Comma last (skip nothing)))) (lit≤ tt)
 
     init_items_fit : (items : InitItems) → AreInitItems all items → {k : List Lexeme} →
         FitBoth 0 0 (init_items_tape items) (rule_of_items items) (init_items_text all items k) k
     init_items_fit no_init_items h = first_only nothing
     init_items_fit (more_init_items ds equal i items) h =
-        both_so (side_by_side (side_by_side (desigs_fit ds h.0) (before (some_sign_skip Equal equal nothing) (init_fits i h.2)))
+        both_so (side_by_side
+        (side_by_side (desigs_fit ds h.0) (before (some_sign_skip Equal equal nothing) (init_fits i h.2)))
         (other_init_items_fit items h.3)) (lit≤ tt)
 
     other_init_items_fit : (items : InitItems) → AreInitItems all items → {k : List Lexeme} →
@@ -379,7 +393,8 @@ module _ (all : List Lexeme) where
     desig_fits (index_desig opening e closing) h =
         both_so (pair (skip (quiet_fits (expr_fits e h.0 false false))) (skip one)) (lit≤ tt)
     desig_fits (range_desig opening e dots e2 closing) h =
-        both_so (pair (skip (join (quiet_fits (expr_fits e h.0 false false)) (skip (quiet_fits (expr_fits e2 h.2 false false)))))
+        both_so (pair
+        (skip (join (quiet_fits (expr_fits e h.0 false false)) (skip (quiet_fits (expr_fits e2 h.2 false false)))))
         (skip one)) (lit≤ tt)
     desig_fits (old_desig name colon) h = both_so (second_only (skip (skip one))) (lit≤ tt)
 
@@ -387,7 +402,8 @@ module _ (all : List Lexeme) where
         Fits 0 0 (some_init_tape i) (some_init_text all i k) k
     some_init_fits no_init h = nothing
     some_init_fits (some_init equal (init_value e)) h = so (skip (join (expr_fits e h.0 false false) one)) (lit≤ tt)
-    some_init_fits (some_init equal (init_braced list)) h = so (skip (join (join_parted one (list_fits list h) one) one)) (lit≤ tt)
+    some_init_fits (some_init equal (init_braced list)) h =
+        so (skip (join (join_parted one (list_fits list h) one) one)) (lit≤ tt)
 
     -- declarations
 
@@ -396,14 +412,16 @@ module _ (all : List Lexeme) where
     init_declrs_fit no_init_declrs h = so nothing (lit≤ tt)
     init_declrs_fit (more_init_declrs attrs d asm_label attrs2 i ds) h =
         attrs_skip all attrs (so (join (join (join (one_by_one (declr_fits d h.1 false)) one)
-        (label_skip all asm_label (attrs_skip all attrs2 (some_init_fits i h.5)))) (other_init_declrs_fit ds h.6)) (lit≤ tt))
+        (label_skip all asm_label (attrs_skip all attrs2 (some_init_fits i h.5))))
+        (other_init_declrs_fit ds h.6)) (lit≤ tt))
 
     other_init_declrs_fit : (ds : InitDeclrs) → AreInitDeclrs all ds → {k : List Lexeme} →
         Fits 0 0 (init_declrs_tape ds) (other_init_declrs_text all ds k) k
     other_init_declrs_fit no_init_declrs h = nothing
     other_init_declrs_fit (more_init_declrs attrs d asm_label attrs2 i ds) h =
         so (skip (attrs_skip all attrs (join (join (join (one_by_one (declr_fits d h.1 false)) one)
-        (label_skip all asm_label (attrs_skip all attrs2 (some_init_fits i h.5)))) (other_init_declrs_fit ds h.6)))) (lit≤ tt)
+        (label_skip all asm_label (attrs_skip all attrs2 (some_init_fits i h.5)))) (other_init_declrs_fit ds h.6))))
+        (lit≤ tt)
 
     declaration_fits : (d : Declaration) → IsDeclaration all d → {k : List Lexeme} →
         Fits 0 0 (declaration_tape d) (declaration_text all d k) k
@@ -417,7 +435,8 @@ module _ (all : List Lexeme) where
     auto_declrs_fit no_init_declrs h semi = so nothing (lit≤ tt)
     auto_declrs_fit (more_init_declrs attrs d asm_label attrs2 i ds) h semi =
         attrs_skip all attrs (so (join (join (first_of (declr_fits d h.1 false))
-        (label_skip all asm_label (attrs_skip all attrs2 (auto_init_fits i h.5 semi)))) (other_auto_declrs_fit ds h.6 semi))
+        (label_skip all asm_label (attrs_skip all attrs2 (auto_init_fits i h.5 semi))))
+        (other_auto_declrs_fit ds h.6 semi))
         (lit≤ tt))
 
     other_auto_declrs_fit : (ds : InitDeclrs) → AreInitDeclrs all ds → (semi : ℕ) → {k : List Lexeme} →
@@ -425,7 +444,8 @@ module _ (all : List Lexeme) where
     other_auto_declrs_fit no_init_declrs h semi = nothing
     other_auto_declrs_fit (more_init_declrs attrs d asm_label attrs2 i ds) h semi =
         so (skip (attrs_skip all attrs (join (join (first_of (declr_fits d h.1 false))
-        (label_skip all asm_label (attrs_skip all attrs2 (auto_init_fits i h.5 semi)))) (other_auto_declrs_fit ds h.6 semi))))
+        (label_skip all asm_label (attrs_skip all attrs2 (auto_init_fits i h.5 semi))))
+        (other_auto_declrs_fit ds h.6 semi))))
         (lit≤ tt)
 
     auto_init_fits : (i : SomeInit) → IsSomeInit all i → (semi : ℕ) → {k : List Lexeme} →
@@ -456,27 +476,33 @@ module _ (all : List Lexeme) where
 
     stmt_fits : (s : Stmt) → IsStmt all s → (kept : Bool) → {k : List Lexeme}
         → Fits 0 0 (stmt_tape kept s) (stmt_text all s k) k
-    stmt_fits (block opening items closing) h kept = so (skip (ends (scope_fits (block_items_fit items h.0 false)))) (lit≤ tt)
+    stmt_fits (block opening items closing) h kept =
+        so (skip (ends (scope_fits (block_items_fit items h.0 false)))) (lit≤ tt)
     stmt_fits (expr_stmt e semi) h kept = so (ends (either kept (some_expr_fits e h) (dropped_fits e h))) (lit≤ tt)
     stmt_fits (attr_stmt attrs semi) h kept = attrs_skip all attrs (so (skip nothing) (lit≤ tt))
-    stmt_fits (label name colon attrs s) h kept = so (skip (skip (attrs_skip all attrs (stmt_fits s h.1 false)))) (lit≤ tt)
+    stmt_fits (label name colon attrs s) h kept =
+        so (skip (skip (attrs_skip all attrs (stmt_fits s h.1 false)))) (lit≤ tt)
     stmt_fits (case_stmt keyword e colon s) h kept =
         so (skip (join (quiet_fits (expr_fits e h.0 false false)) (skip (stmt_fits s h.2 false)))) (lit≤ tt)
     stmt_fits (default_stmt keyword colon s) h kept = so (skip (skip (stmt_fits s h false))) (lit≤ tt)
     stmt_fits (if_stmt keyword opening e closing s other) h kept =
-        so (skip (skip (scope_fits (join (join (join (expr_fits e h.0 false false) one) (skip (scope_fits (stmt_fits s h.1 false))))
+        so (skip (skip
+        (scope_fits (join (join (join (expr_fits e h.0 false false) one) (skip (scope_fits (stmt_fits s h.1 false))))
         (some_else_fits other s h.2))))) (lit≤ tt)
     stmt_fits (switch_stmt keyword opening e closing s) h kept =
-        so (skip (skip (scope_fits (join (join (expr_fits e h.0 false false) one) (skip (scope_fits (stmt_fits s h.1 false)))))))
+        so (skip
+        (skip (scope_fits (join (join (expr_fits e h.0 false false) one) (skip (scope_fits (stmt_fits s h.1 false)))))))
         (lit≤ tt)
     stmt_fits (while_stmt keyword opening e closing s) h kept =
-        so (skip (skip (scope_fits (join (join (expr_fits e h.0 false false) one) (skip (scope_fits (stmt_fits s h.1 false)))))))
+        so (skip
+        (skip (scope_fits (join (join (expr_fits e h.0 false false) one) (skip (scope_fits (stmt_fits s h.1 false)))))))
         (lit≤ tt)
     stmt_fits (do_stmt keyword s keyword2 opening e closing semi) h kept =
-        so (skip (ends (ends (scope_fits (join (join (scope_fits (stmt_fits s h.0 false)) (skip (skip (expr_fits e h.1 false false))))
-        one))))) (lit≤ tt)
+        so (skip (ends (ends (scope_fits
+        (join (join (scope_fits (stmt_fits s h.0 false)) (skip (skip (expr_fits e h.1 false false)))) one))))) (lit≤ tt)
     stmt_fits (for_stmt keyword opening start e semi e2 closing s) h kept =
-        so (skip (skip (scope_fits (join (join (join (for_start_fits start h.0) (dropped_fits e h.1)) (skip (dropped_fits e2 h.2)))
+        so (skip (skip
+        (scope_fits (join (join (join (for_start_fits start h.0) (dropped_fits e h.1)) (skip (dropped_fits e2 h.2)))
         (skip (scope_fits (stmt_fits s h.3 false))))))) (lit≤ tt)
     stmt_fits (goto_stmt keyword name semi) h kept = so (skip (skip (skip nothing))) (lit≤ tt)
     stmt_fits (continue_stmt keyword semi) h kept = so (skip (skip nothing)) (lit≤ tt)
@@ -485,9 +511,11 @@ module _ (all : List Lexeme) where
     stmt_fits (asm_stmt keyword words group semi) h kept =
         so (skip (words_skip words (group_skip all group (skip nothing)))) (lit≤ tt)
     stmt_fits (case_range keyword e dots e2 colon s) h kept =
-        so (skip (join (join (quiet_fits (expr_fits e h.0 false false)) (skip (quiet_fits (expr_fits e2 h.2 false false))))
+        so (skip
+        (join (join (quiet_fits (expr_fits e h.0 false false)) (skip (quiet_fits (expr_fits e2 h.2 false false))))
         (skip (stmt_fits s h.4 false)))) (lit≤ tt)
-    stmt_fits (goto_value keyword star e semi) h kept = so (skip (skip (ends (join (expr_fits e h false false) one)))) (lit≤ tt)
+    stmt_fits (goto_value keyword star e semi) h kept =
+        so (skip (skip (ends (join (expr_fits e h false false) one)))) (lit≤ tt)
 
     some_else_fits : (other : SomeElse) (earlier : Stmt) → IsOther all earlier other → {k : List Lexeme} →
         Fits 0 0 (some_else_tape other) (some_else_text all other k) k
@@ -511,14 +539,16 @@ module _ (all : List Lexeme) where
   other_old_declrs_fit no_init_declrs h = nothing
   other_old_declrs_fit (more_init_declrs attrs d asm_label attrs2 i ds) h =
       so (skip (attrs_skip all attrs (join (join (join (one_by_one (declr_fits d h.1 false)) one)
-      (label_skip all asm_label (attrs_skip all attrs2 (some_init_fits i h.5)))) (other_old_declrs_fit ds h.6)))) (lit≤ tt)
+      (label_skip all asm_label (attrs_skip all attrs2 (some_init_fits i h.5)))) (other_old_declrs_fit ds h.6))))
+      (lit≤ tt)
 
   old_declrs_fit : (ds : InitDeclrs) → AreInitDeclrs all ds → {k : List Lexeme} →
       Fits 1 0 (old_declrs_tape ds) (init_declrs_text all ds k) k
   old_declrs_fit no_init_declrs h = so nothing (lit≤ tt)
   old_declrs_fit (more_init_declrs attrs d asm_label attrs2 i ds) h =
       attrs_skip all attrs (so (join (join (join (one_by_one (declr_fits d h.1 false)) one)
-      (label_skip all asm_label (attrs_skip all attrs2 (some_init_fits i h.5)))) (other_old_declrs_fit ds h.6)) (lit≤ tt))
+      (label_skip all asm_label (attrs_skip all attrs2 (some_init_fits i h.5))))
+      (other_old_declrs_fit ds h.6)) (lit≤ tt))
 
   old_declaration_fits : (d : Declaration) → IsDeclaration all d → {k : List Lexeme} →
       Fits 0 0 (old_declaration_tape d) (declaration_text all d k) k
@@ -542,13 +572,15 @@ module _ (all : List Lexeme) where
   old_declr_fits ds (pointer star words d) h =
       both_so (before (skip (join (pointer_words_fit all words h.0) one)) (old_declr_fits ds d h.1)) (omega arith)
   old_declr_fits ds (declr_paren opening attrs d closing) h =
-      both_so (both_past (before (skip (attrs_skip all attrs nothing)) (old_declr_fits ds d h.1)) (skip nothing)) (omega arith)
+      both_so
+      (both_past (before (skip (attrs_skip all attrs nothing)) (old_declr_fits ds d h.1)) (skip nothing)) (omega arith)
   old_declr_fits ds (array d opening words size closing) h =
       both_so (inside_out (old_declr_fits ds d h.0)
       (crossed (skip (join (array_words_fit all words h.3) one)) (ends (some_size_fits size h.4)))) (omega arith)
   old_declr_fits ds (params d opening ps dots closing) h =
       both_so (inside_out (old_declr_fits ds d h.0)
-      (pair (params_fit false (says_none ps) (params_fits ps h.3)) (ends (join (dots_fit all ps dots h.4) one)))) (omega arith)
+      (pair (params_fit false (says_none ps) (params_fits ps h.3)) (ends (join (dots_fit all ps dots h.4) one))))
+      (omega arith)
   old_declr_fits ds (declr_name token name) h = both_so (declr_fits (declr_name token name) h false) (omega arith)
   old_declr_fits ds (base_name token) h = both_so (declr_fits (base_name token) h false) (omega arith)
   old_declr_fits ds (abs_pointer star words d) h = both_so (declr_fits (abs_pointer star words d) h false) (omega arith)
@@ -561,13 +593,16 @@ module _ (all : List Lexeme) where
 
   item_fits : (item : Item) → IsItem all item → {k : List Lexeme} → Fits 0 0 (item_tape item) (item_text all item k) k
   item_fits (function_item extensions ws d attrs opening items closing) h =
-      extensions_skip extensions (so (ends (join (join (join (join (join (join_both (specs_fit (mix_fits ws h.0 h.1 false))
+      extensions_skip extensions
+      (so (ends (join (join (join (join (join (join_both (specs_fit (mix_fits ws h.0 h.1 false))
       (declr_fits d h.4 true)) one) one)
       (attrs_skip all attrs (skip (block_items_fit items h.7 false)))) one) one)) (lit≤ tt))
   item_fits (old_function_item extensions ws d attrs ds opening items closing) h =
-      extensions_skip extensions (so (ends (join (join (join (join (join (join_both (specs_fit (mix_fits ws h.0 h.1 false))
+      extensions_skip extensions
+      (so (ends (join (join (join (join (join (join_both (specs_fit (mix_fits ws h.0 h.1 false))
       (old_declr_fits ds d h.4)) one) one)
-      (attrs_skip all attrs (makes_room (old_declarations_fit ds h.7) (skip (block_items_fit items h.8 false))))) one) one))
+      (attrs_skip all attrs (makes_room (old_declarations_fit ds h.7) (skip (block_items_fit items h.8 false))))) one)
+      one))
       (omega arith))
   item_fits (decl_item d) h = decl_fits d h
   item_fits (asm_item keyword group semi) h = so (skip (group_skip all group (skip nothing))) (lit≤ tt)
@@ -577,5 +612,6 @@ module _ (all : List Lexeme) where
       Fits 0 0 (tape_of items) (items_text all items k) k
   items_fit [] h k = nothing
   items_fit (item ∷ items) h k =
-      so (join (item_fits item (All-head (IsItem all) item items h)) (items_fit items (All-tail (IsItem all) item items h) k))
+      so (join (item_fits item (All-head (IsItem all) item items h))
+      (items_fit items (All-tail (IsItem all) item items h) k))
       (lit≤ tt)

@@ -9,13 +9,17 @@ use Rattle.match_summary.specs.Closing.{AreDone, Grows, IsClosed, IsLookedAt, Is
 use Rattle.match_summary.proofs.Growth.{at_contains, at_early, at_grown, contains_at, has_grown}
 
 -- With one path more that was looked at, what follows by the rules is there.
-module _ (sys : System) (lattice : ℕ) (marks : List Bool) (marked : (a : ℕ) → IsInnerEnd sys lattice a → IsMarked marks a) (Path More : ℕ → ℕ → Type 0) (old new : List Summary) (from to : ℕ) (done : AreDone sys lattice marks Path old) (grows : Grows old new)
-    (looked : IsMarked marks from → IsLookedAt sys lattice marks old new from to) (known : (u v : ℕ) → Path u v → Leads old u v) (path : Leads old from to)
+module _ (sys : System) (lattice : ℕ) (marks : List Bool)
+    (marked : (a : ℕ) → IsInnerEnd sys lattice a → IsMarked marks a) (Path More : ℕ → ℕ → Type 0)
+    (old new : List Summary) (from to : ℕ) (done : AreDone sys lattice marks Path old) (grows : Grows old new)
+    (looked : IsMarked marks from → IsLookedAt sys lattice marks old new from to)
+    (known : (u v : ℕ) → Path u v → Leads old u v) (path : Leads old from to)
     (cover : (u v : ℕ) → More u v → Path u v ⊎ ((u ≡ from) × (v ≡ to))) where
   looked_at : (u v : ℕ) → u ≡ from → v ≡ to → IsMarked marks u → IsLookedAt sys lattice marks old new u v
   looked_at u v first last inner =
       subst (λ x. IsLookedAt sys lattice marks old new x v) (sym first)
-      (subst (λ y. IsLookedAt sys lattice marks old new from y) (sym last) (looked (subst (λ x. IsMarked marks x) first inner)))
+      (subst (λ y. IsLookedAt sys lattice marks old new from y) (sym last)
+      (looked (subst (λ x. IsMarked marks x) first inner)))
 
   leads_at : (u v : ℕ) → More u v → Leads old u v
   leads_at u v more = elim (cover u v more) [
@@ -30,9 +34,11 @@ module _ (sys : System) (lattice : ℕ) (marks : List Bool) (marked : (a : ℕ) 
   group_more : (n m s u x a b w : ℕ) → IsMarked marks u → Path u x → Leads old u x → Stands sys lattice n (Enter s x a)
       → (a ≡ b) ⊎ More a b → AreOfOne sys a b →
       Stands sys lattice m (Leave s b w) → AreOfOne sys u w → HasPair new u w
-  group_more n m s u x a b w inner early leads enter (inl same) one leave ends = has_grown old new u w grows (done.group n m s u x a b w inner early enter (inl same) one leave ends)
+  group_more n m s u x a b w inner early leads enter (inl same) one leave ends =
+      has_grown old new u w grows (done.group n m s u x a b w inner early enter (inl same) one leave ends)
   group_more n m s u x a b w inner early leads enter (inr more) one leave ends = elim (cover a b more) [
-    | inl inside ↦ has_grown old new u w grows (done.group n m s u x a b w inner early enter (inr inside) one leave ends)
+    | inl inside ↦
+        has_grown old new u w grows (done.group n m s u x a b w inner early enter (inr inside) one leave ends)
     | inr it ↦ (looked_at a b it.0 it.1 (marked a (n, s, x, enter)) m).leave s w n leave one x enter u inner leads ends
   ]
 
@@ -72,7 +78,8 @@ cover_pair old new low at row grows within there u v (inr pair) = elim (cases_lt
   | inr ge ↦
       let lt = pair.2 in
       let is : at ≡ pair.0 = omega (arith, lt, ge) in
-      let one : Some row ≡ Some (record { from = u; to = v; why = pair.1 }) = sym (at_grown old new at row grows there) ∙ ap (λ k. slice_get new k) is ∙ pair.3 in
+      let one : Some row ≡ Some (record { from = u; to = v; why = pair.1 }) =
+      sym (at_grown old new at row grows there) ∙ ap (λ k. slice_get new k) is ∙ pair.3 in
       let same : row ≡ record { from = u; to = v; why = pair.1 } = some_is row _ one in
       inr (ap (λ (r : Summary). r.from) (sym same), ap (λ (r : Summary). r.to) (sym same))
 ]
@@ -87,15 +94,20 @@ pub done_closed : (sys : System) (lattice : ℕ) (marks : List Bool) (vars : ℕ
 done_closed sys lattice marks vars rows marked below done = record {
   flow = λ n u v w begins path st. done.flow n u v w begins (each u v (flow_below n v w st) path) st;
   group = λ n m s u x a b w begins path enter inside one leave.
-      done.group n m s u x a b w begins (each u x (enter_below n s x a enter).0 path) enter (each_in a b (enter_below n s x a enter).1 inside) one leave;
+      done.group n m s u x a b w begins (each u x (enter_below n s x a enter).0 path) enter
+      (each_in a b (enter_below n s x a enter).1 inside) one leave;
 }
   where
     flow_below : (n v w : ℕ) → Stands sys lattice n (Le v w) → v < vars
-    flow_below n v w st = let le = below n (Le v w) (record { constraint = st.constraint; there = st.there; link_is = st.link_is }) in omega (arith, le)
+    flow_below n v w st =
+        let le = below n (Le v w) (record { constraint = st.constraint; there = st.there; link_is = st.link_is }) in
+        omega (arith, le)
 
     enter_below : (n s x a : ℕ) → Stands sys lattice n (Enter s x a) → (x < vars) × (a < vars)
     enter_below n s x a st =
-        let le = below n (Enter s x a) (record { constraint = st.constraint; there = st.there; link_is = st.link_is }) in (omega (arith, le), omega (arith, le))
+        let le =
+        below n (Enter s x a) (record { constraint = st.constraint; there = st.there; link_is = st.link_is }) in
+        (omega (arith, le), omega (arith, le))
 
     each : (u v : ℕ) → v < vars → Leads rows u v → Looked rows vars (length rows) u v
     each u v lt (inl same) = inl (same, subst (λ (x : ℕ). x < vars) (sym same) lt)

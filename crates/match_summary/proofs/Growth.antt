@@ -5,6 +5,7 @@ use Rattle.std.proofs.lemmas.List.{length-append, take-append-le}
 use Rattle.std.proofs.lemmas.List.Elements.{Contains-append_left, Contains-push_cases}
 use Rattle.std.proofs.lemmas.Option.{slice_get_within, slice_get-get_or, get_or_from_slice_get}
 use Rattle.std.proofs.Math.Seq.{take-append_seam}
+use Rattle.qual_base.proofs.Lists.{get_left}
 use Rattle.flow_graph.specs.System.{System}
 use Rattle.match_summary.specs.declared.reason.Reason.{Reason}
 use Rattle.match_summary.specs.declared.reason.Reason.TheVariants.{Last, Group}
@@ -33,22 +34,7 @@ push_cases (z ∷ xs) x (suc n) y is = elim (push_cases xs x n y is) [
   | inr new ↦ inr (ap (λ k. suc k) new.0, new.1)
 ]
 
-pub push_left : {X : Type 0} (xs : List X) (last x : X) (n : ℕ) → slice_get xs n ≡ Some x
-    → slice_get (xs ++ last ∷ []) n ≡ Some x
-push_left [] last x n is = absurd cc
-push_left (y ∷ xs) last x zero is = is
-push_left (y ∷ xs) last x (suc n) is = push_left xs last x n is
-
-pub push_last : {X : Type 0} (xs : List X) (last : X) → slice_get (xs ++ last ∷ []) (length xs) ≡ Some last
-push_last [] last = refl
-push_last (x ∷ xs) last = push_last xs last
-
--- the elements of a longer list at the places of the shorter one
-front_on : {X : Type 0} (xs ys : List X) (n : ℕ) (x : X) → slice_get xs n ≡ Some x → slice_get (xs ++ ys) n ≡ Some x
-front_on [] ys n x is = absurd cc
-front_on (y ∷ xs) ys zero x is = is
-front_on (y ∷ xs) ys (suc n) x is = front_on xs ys n x is
-
+-- an item at a place within the first of two joined lists is one of the first
 front_back : {X : Type 0} (xs ys : List X) (n : ℕ) (x : X) → n < length xs → slice_get (xs ++ ys) n ≡ Some x
     → slice_get xs n ≡ Some x
 front_back [] ys n x lt is = absurd (omega arith)
@@ -57,23 +43,28 @@ front_back (y ∷ xs) ys (suc n) x lt is = front_back xs ys n x (omega arith) is
 
 pub at_grown : (old new : List Summary) (n : ℕ) (row : Summary) → Grows old new → slice_get old n ≡ Some row
     → slice_get new n ≡ Some row
-at_grown old new n row p is = ap (λ (rows : List Summary). slice_get rows n) p.is ∙ front_on old p.more n row is
+at_grown old new n row p is = ap (λ (rows : List Summary). slice_get rows n) p.is ∙ get_left old p.more n row is
 
 pub at_early : (old new : List Summary) (n : ℕ) (row : Summary) → Grows old new → n < length old
     → slice_get new n ≡ Some row → slice_get old n ≡ Some row
-at_early old new n row p lt is = front_back old p.more n row lt (ap (λ (rows : List Summary). slice_get rows n) (sym p.is) ∙ is)
+at_early old new n row p lt is =
+    front_back old p.more n row lt (ap (λ (rows : List Summary). slice_get rows n) (sym p.is) ∙ is)
 
 pub grows_not : (rows : List Summary) → Grows rows rows
 grows_not rows = record { more = []; is = sym (append-nil rows) }
 
 pub grows_then : (a b c : List Summary) → Grows a b → Grows b c → Grows a c
-grows_then a b c p q = record { more = p.more ++ q.more; is = q.is ∙ ap (λ xs. xs ++ q.more) p.is ∙ append_assoc a p.more q.more }
+grows_then a b c p q =
+    record { more = p.more ++ q.more; is = q.is ∙ ap (λ xs. xs ++ q.more) p.is ∙ append_assoc a p.more q.more }
 
 pub grows_longer : (old new : List Summary) → Grows old new → length old ≤ length new
-grows_longer old new p = let whole : length new ≡ length old + length p.more = ap length p.is ∙ length-append old p.more in omega (arith, whole)
+grows_longer old new p =
+    let whole : length new ≡ length old + length p.more = ap length p.is ∙ length-append old p.more in
+    omega (arith, whole)
 
 pub contains_grown : (old new : List Summary) (row : Summary) → Grows old new → Contains old row → Contains new row
-contains_grown old new row p there = subst (λ rows. Contains rows row) (sym p.is) (Contains-append_left old p.more row there)
+contains_grown old new row p there =
+    subst (λ rows. Contains rows row) (sym p.is) (Contains-append_left old p.more row there)
 
 pub has_grown : (old new : List Summary) (u v : ℕ) → Grows old new → HasPair old u v → HasPair new u v
 has_grown old new u v p h = (h.0, contains_grown old new _ p h.1)
@@ -85,7 +76,8 @@ leads_grown old new u v p (inr h) = inr (has_grown old new u v p h)
 pub ends_grown : (sys : System) (lattice : ℕ) (old new : List Summary) (why : Reason) (v : ℕ) → Grows old new
     → EndsAt sys lattice old why v → EndsAt sys lattice new why v
 ends_grown sys lattice old new (Last edge before) v p h = h
-ends_grown sys lattice old new (Group before enter leave) v p h = (h.0, h.1, h.2, h.3, leads_grown old new h.1 h.2 p h.4, h.5, h.6)
+ends_grown sys lattice old new (Group before enter leave) v p h =
+    (h.0, h.1, h.2, h.3, leads_grown old new h.1 h.2 p h.4, h.5, h.6)
 
 -- a new pair whose reason rests on the list keeps the list good
 pub good_push : (sys : System) (lattice : ℕ) (marks : List Bool) (rows : List Summary) (row : Summary)
@@ -99,18 +91,29 @@ good_push sys lattice marks rows row good rests new inner = record {
   grounded = λ n r is. elim (push_cases rows row n r is) [
     | inl old ↦
         let lt = old.0 in
-        subst (λ xs. RestsOn sys lattice xs r) (sym (take-append-le n rows (row ∷ []) (omega arith))) (good.grounded n r old.1)
+        subst (λ xs. RestsOn sys lattice xs r) (sym (take-append-le n rows (row ∷ []) (omega arith)))
+        (good.grounded n r old.1)
     | inr last ↦
-        let front : take n (rows ++ row ∷ []) ≡ rows = ap (λ k. take k (rows ++ row ∷ [])) last.0 ∙ take-append_seam rows (row ∷ []) in
-        subst (λ xs. RestsOn sys lattice xs r) (sym front) (subst (λ (x : Summary). RestsOn sys lattice rows x) last.1 rests)
+        let front : take n (rows ++ row ∷ []) ≡ rows =
+        ap (λ k. take k (rows ++ row ∷ [])) last.0 ∙ take-append_seam rows (row ∷ []) in
+        subst (λ xs. RestsOn sys lattice xs r) (sym front)
+        (subst (λ (x : Summary). RestsOn sys lattice rows x) last.1 rests)
   ];
   once = λ n m u v p q a b. elim (push_cases rows row n _ a) [
     | inl first ↦ elim (push_cases rows row m _ b) [
       | inl second ↦ good.once n m u v p q first.1 second.1
-      | inr second ↦ absurd (new (p, contains_at rows n _ (first.1 ∙ ap (λ (x : Summary). Some (record { from = x.from; to = x.to; why = p })) (sym second.1))))
+      | inr second ↦ absurd (new (
+        p,
+        contains_at rows n _
+            (first.1 ∙ ap (λ (x : Summary). Some (record { from = x.from; to = x.to; why = p })) (sym second.1)),
+      ))
     ]
     | inr first ↦ elim (push_cases rows row m _ b) [
-      | inl second ↦ absurd (new (q, contains_at rows m _ (second.1 ∙ ap (λ (x : Summary). Some (record { from = x.from; to = x.to; why = q })) (sym first.1))))
+      | inl second ↦ absurd (new (
+        q,
+        contains_at rows m _
+            (second.1 ∙ ap (λ (x : Summary). Some (record { from = x.from; to = x.to; why = q })) (sym first.1)),
+      ))
       | inr second ↦ first.0 ∙ sym second.0
     ]
   ];
@@ -144,6 +147,7 @@ pub entered_from : (sys : System) (lattice : ℕ) (marks : List Bool) (first old
     → Grows first old → IsEntered sys lattice marks old new u s w m → IsEntered sys lattice marks first new u s w m
 entered_from sys lattice marks first old new u s w m p h = λ x st. all_from sys marks first old new x w p (h x st)
 
+-- a constraint that was followed stays so when more summaries come
 pub followed_on : (sys : System) (lattice : ℕ) (marks : List Bool) (first old new : List Summary) (u v n : ℕ)
     → Grows old new → IsFollowed sys lattice marks first old u v n → IsFollowed sys lattice marks first new u v n
 followed_on sys lattice marks first old new u v n p h = record {
@@ -152,6 +156,7 @@ followed_on sys lattice marks first old new u v n p h = record {
   leave = λ s w m st one. entered_on sys lattice marks first old new u s w m p (h.leave s w m st one);
 }
 
+-- what was followed for all of a list of summaries was followed for those that it grew from
 pub followed_from : (sys : System) (lattice : ℕ) (marks : List Bool) (first old new : List Summary) (u v n : ℕ)
     → Grows first old → IsFollowed sys lattice marks old new u v n → IsFollowed sys lattice marks first new u v n
 followed_from sys lattice marks first old new u v n p h = record {
@@ -167,12 +172,14 @@ target_at [] n row is = absurd cc
 target_at (x ∷ rows) zero row is = cc
 target_at (x ∷ rows) (suc n) row is = target_at rows n row is
 
+-- a place of the targets that has a variable has a summary that leads to it
 pub row_at : (rows : List Summary) (n to : ℕ) → slice_get (targets rows) n ≡ Some to
     → (row : Summary) × (slice_get rows n ≡ Some row) × (row.to ≡ to)
 row_at [] n to is = absurd cc
 row_at (x ∷ rows) zero to is = (x, refl, cc)
 row_at (x ∷ rows) (suc n) to is = row_at rows n to is
 
+-- a place has the same target when more summaries come
 pub targets_grown : (old new : List Summary) (n to : ℕ) → Grows old new → slice_get (targets old) n ≡ Some to
     → slice_get (targets new) n ≡ Some to
 targets_grown old new n to p is =
@@ -184,14 +191,17 @@ pub all_follow : (sys : System) (marks : List Bool) (first old new : List Summar
     → Grows old new → (IsMarked marks x → Follows sys old x w) →
     ((t : ℕ) → HasPair old t x → Follows sys new t w) → AllFollow sys marks first new x w
 all_follow sys marks first old new x w p q here pairs t inner (inl same) one =
-    has_grown old new t w q (subst (λ y. Follows sys old y w) (sym same) (here (subst (λ y. IsMarked marks y) same inner)) one)
-all_follow sys marks first old new x w p q here pairs t inner (inr pair) one = pairs t (has_grown first old t x p pair) one
+    has_grown old new t w q
+    (subst (λ y. Follows sys old y w) (sym same) (here (subst (λ y. IsMarked marks y) same inner)) one)
+all_follow sys marks first old new x w p q here pairs t inner (inr pair) one =
+    pairs t (has_grown first old t x p pair) one
 
 -- what follows of the Leaves from one variable, after the list has grown before and since
 pub left_between : (sys : System) (lattice : ℕ) (first old middle new : List Summary) (u s a b m : ℕ) → Grows first old
     → Grows middle new → IsLeftFrom sys lattice old middle u s a b m →
     IsLeftFrom sys lattice first new u s a b m
-left_between sys lattice first old middle new u s a b m p q h = λ w st leads one. follows_on sys middle new u w q (h w st (leads_grown first old a b p leads) one)
+left_between sys lattice first old middle new u s a b m p q h =
+    λ w st leads one. follows_on sys middle new u w q (h w st (leads_grown first old a b p leads) one)
 
 -- where they begin, after they have grown
 pub sources_grown : (old new : List Summary) (n from : ℕ) → Grows old new → slice_get (sources old) n ≡ Some from

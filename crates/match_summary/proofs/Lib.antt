@@ -2,7 +2,7 @@ mod Chaining
 mod Counting
 pub mod Crossing
 mod Followed
-mod Growth
+pub mod Growth
 mod Hashing
 mod Matched
 pub mod Sources

@@ -1,11 +1,8 @@
 -- The turns of a loop over a list of numbers.
-use Rattle.std.proofs.Common.{◌≡◌, ℕ, zero, suc, ◌+◌, ◌≤◌, ◌<◌, inl, inr, List, [], ◌∷◌, Option, length, get_or, sym, ◌∙◌, ap, subst, arith}
+use Rattle.std.proofs.Common.{◌≡◌, ℕ, zero, suc, ◌+◌, ◌≤◌, ◌<◌, inl, inr, List, [], ◌∷◌, length, get_or, sym, ◌∙◌, ap, subst, arith}
 use Rattle.std.specs.List.{Contains}
 use Rattle.std.proofs.lemmas.Bool.{cases_lt}
 use Rattle.std.proofs.lemmas.List.{get_or_read}
-use Rattle.flow_graph.specs.System.{System}
-use Rattle.flow_graph.specs.declared.constraint.Link.{Link}
-use Rattle.flow_graph.specs.Index.{AreThose, IsKeyed}
 
 -- one more is done
 pub turn_more : (P : ℕ → Type 0) (items : List ℕ) (at item : ℕ) → at < length items → item ≡ get_or items at item
@@ -23,18 +20,6 @@ turn_more P items at item within is done here k n lt e = elim (cases_lt k at) [
 pub turns_all : (P : ℕ → Type 0) (items : List ℕ) (at : ℕ) → length items ≤ at
     → ((k n : ℕ) → k < at → get_or items k n ≡ n → P n) → (n : ℕ) → Contains items n → P n
 turns_all P items at past done n there = let lt = there.1 in done there.0 n (omega (arith, past, lt)) there.2
-
--- an item of a list of constraints by their key has the key
-pub item_keyed : (sys : System) (key_of : Link → Option ℕ) (key : ℕ) (row items : List ℕ) (at item : ℕ)
-    → AreThose (IsKeyed sys key_of key) row → items ≡ row → at < length items →
-    item ≡ get_or items at item → IsKeyed sys key_of key item
-item_keyed sys key_of key row items at item those same within is = those.only item (subst (λ xs. Contains xs item) same (at, within, sym is))
-
--- each constraint with the key is in the list
-pub keyed_item : (sys : System) (key_of : Link → Option ℕ) (key : ℕ) (row items : List ℕ) (n : ℕ)
-    → AreThose (IsKeyed sys key_of key) row → items ≡ row → IsKeyed sys key_of key n →
-    Contains items n
-keyed_item sys key_of key row items n those same has = subst (λ xs. Contains xs n) (sym same) (those.all n has)
 
 -- an element of a list of one
 pub only_one : (x a : ℕ) → Contains (x ∷ []) a → x ≡ a

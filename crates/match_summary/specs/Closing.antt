@@ -62,7 +62,8 @@ Follows sys rows u w = AreOfOne sys u w → HasPair rows u w
 
 -- constraint m, as a Leave of the site from b behind an Enter from u to a, was followed
 abbrev pub IsLeftFrom : System → ℕ → List Summary → List Summary → ℕ → ℕ → ℕ → ℕ → ℕ → Type 0
-IsLeftFrom sys lattice old new u s a b m = (w : ℕ) → Stands sys lattice m (Leave s b w) → Leads old a b → AreOfOne sys a b → Follows sys new u w
+IsLeftFrom sys lattice old new u s a b m =
+    (w : ℕ) → Stands sys lattice m (Leave s b w) → Leads old a b → AreOfOne sys a b → Follows sys new u w
 
 -- from whatever variable it leaves
 abbrev pub IsLeft : System → ℕ → List Summary → List Summary → ℕ → ℕ → ℕ → ℕ → Type 0
@@ -74,10 +75,12 @@ AllFollow sys marks old new x w = (t : ℕ) → IsMarked marks t → Leads old t
 
 -- constraint m, as an Enter to u before a Leave of the site to w, was followed
 abbrev pub IsEntered : System → ℕ → List Bool → List Summary → List Summary → ℕ → ℕ → ℕ → ℕ → Type 0
-IsEntered sys lattice marks old new u s w m = (x : ℕ) → Stands sys lattice m (Enter s x u) → AllFollow sys marks old new x w
+IsEntered sys lattice marks old new u s w m =
+    (x : ℕ) → Stands sys lattice m (Enter s x u) → AllFollow sys marks old new x w
 
 -- What follows from a path from u to v and constraint n is there.
-pub record IsFollowed (sys : System) (lattice : ℕ) (marks : List Bool) (old new : List Summary) (u v n : ℕ) : Type 0 where
+pub record IsFollowed (sys : System) (lattice : ℕ) (marks : List Bool) (old new : List Summary)
+    (u v n : ℕ) : Type 0 where
   pub flow : (w : ℕ) → Stands sys lattice n (Le v w) → Follows sys new u w
   pub enter : (s a m : ℕ) → Stands sys lattice n (Enter s v a) → IsLeft sys lattice old new u s a m
   pub leave : (s w m : ℕ) → Stands sys lattice n (Leave s v w) → AreOfOne sys u v
@@ -89,10 +92,13 @@ IsLookedAt sys lattice marks old new u v = (n : ℕ) → IsFollowed sys lattice 
 
 -- The paths that were looked at: nothing at each variable below `low`, and each pair before place `at`.
 abbrev pub Looked : List Summary → ℕ → ℕ → ℕ → ℕ → Type 0
-Looked rows low at u v = ((u ≡ v) × (u < low)) ⊎ ((n : ℕ) × (why : Reason) × (n < at) × (slice_get rows n ≡ Some (record { from = u; to = v; why = why })))
+Looked rows low at u v =
+    ((u ≡ v) × (u < low))
+    ⊎ ((n : ℕ) × (why : Reason) × (n < at) × (slice_get rows n ≡ Some (record { from = u; to = v; why = why })))
 
 -- What follows by the rules from such paths is there.
-pub record AreDone (sys : System) (lattice : ℕ) (marks : List Bool) (Path : ℕ → ℕ → Type 0) (rows : List Summary) : Type 0 where
+pub record AreDone (sys : System) (lattice : ℕ) (marks : List Bool) (Path : ℕ → ℕ → Type 0)
+    (rows : List Summary) : Type 0 where
   pub flow : (n u v w : ℕ) → IsMarked marks u → Path u v → Stands sys lattice n (Le v w) → Follows sys rows u w
   pub group : (n m s u x a b w : ℕ) → IsMarked marks u → Path u x → Stands sys lattice n (Enter s x a)
       → (a ≡ b) ⊎ Path a b → AreOfOne sys a b →

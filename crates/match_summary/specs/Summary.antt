@@ -26,7 +26,9 @@ AreOfOne sys u v = (f : ℕ) × (owner_of sys u ≡ Function f) × (owner_of sys
 -- nothing or one of these, in one function.
 abbrev pub EndsAt : System → ℕ → List Summary → Reason → ℕ → Type 0
 EndsAt sys lattice rows (Last edge before) v = Stands sys lattice edge (Le before v)
-EndsAt sys lattice rows (Group before enter leave) v = (s a b : ℕ) × Stands sys lattice enter (Enter s before a) × Leads rows a b × AreOfOne sys a b × Stands sys lattice leave (Leave s b v)
+EndsAt sys lattice rows (Group before enter leave) v =
+    (s a b : ℕ) × Stands sys lattice enter (Enter s before a) × Leads rows a b × AreOfOne sys a b
+    × Stands sys lattice leave (Leave s b v)
 
 -- A summary's reason is right, and rests only on these.
 pub record RestsOn (sys : System) (lattice : ℕ) (rows : List Summary) (row : Summary) : Type 0 where
@@ -36,7 +38,8 @@ pub record RestsOn (sys : System) (lattice : ℕ) (rows : List Summary) (row : S
 
 -- each summary's reason is right, and rests only on those that stand earlier
 abbrev pub IsGrounded : System → ℕ → List Summary → Type 0
-IsGrounded sys lattice rows = (n : ℕ) (row : Summary) → slice_get rows n ≡ Some row → RestsOn sys lattice (take n rows) row
+IsGrounded sys lattice rows =
+    (n : ℕ) (row : Summary) → slice_get rows n ≡ Some row → RestsOn sys lattice (take n rows) row
 
 -- no pair of variables stands twice
 abbrev pub StandsOnce : List Summary → Type 0
@@ -48,8 +51,7 @@ abbrev pub IsInnerEnd : System → ℕ → ℕ → Type 0
 IsInnerEnd sys lattice a = (n s u : ℕ) × Stands sys lattice n (Enter s u a)
 
 -- Summaries of a system in a lattice: the pairs are joined by matched paths, all that such a path joins to an inner end
--- of an
--- Enter are there, each once, and each reason rests on pairs that stand earlier.
+-- of an Enter are there, each once, and each reason rests on pairs that stand earlier.
 pub record Summarises (sys : System) (lattice : ℕ) (rows : List Summary) : Type 0 where
   pub sound : (u v : ℕ) → HasPair rows u v → Match sys lattice u v
   pub whole : (u v : ℕ) → IsInnerEnd sys lattice u → Match sys lattice u v → HasPair rows u v
@@ -61,8 +63,7 @@ abbrev pub IsStart : System → ℕ → List ℕ → ℕ → Type 0
 IsStart sys lattice starts a = IsInnerEnd sys lattice a ⊎ Contains starts a
 
 -- The summaries from inner ends of Enters and from the variables of a list: the pairs begin at these, and all that a
--- matched
--- path joins to one of these are there.
+-- matched path joins to one of these are there.
 pub record SummarisesFrom (sys : System) (lattice : ℕ) (starts : List ℕ) (rows : List Summary) : Type 0 where
   pub summaries : Summarises sys lattice rows
   pub begins : (u v : ℕ) → HasPair rows u v → IsStart sys lattice starts u

@@ -13,8 +13,6 @@ mod found;
 mod inside;
 mod reason;
 mod summary;
-#[cfg(test)]
-mod tests;
 
 pub use closure::{summarise, summarise_from};
 pub use crossings::{Crossings, InnerEnd, Way};

@@ -38,7 +38,8 @@ param_fits None bare h i fits = tt
 param_fits (Some own) true h i fits = fits
 param_fits (Some own) false h i fits = tt
 
-module _ (w : World) (members : MembersBegin w) (links : LinksAreMet w) (k l : Further) (q : Bool) (f : Option Place) where
+module _ (w : World) (members : MembersBegin w) (links : LinksAreMet w) (k l : Further) (q : Bool)
+    (f : Option Place) where
   abbrev wk : World
   wk = world w k
 
@@ -146,7 +147,8 @@ module _ (w : World) (members : MembersBegin w) (links : LinksAreMet w) (k l : F
 
     struct_item_is : (item : StructItem) → StructItemHas U V W item → AreFound w (struct_item_starts a item) →
         struct_item_demand wk item ≡ struct_item_demand wl item
-    struct_item_is (member exts ws ds semi) h found = joined _ _ _ _ (words_is ws h.0 (front w (words_starts a ws) _ found))
+    struct_item_is (member exts ws ds semi) h found =
+        joined _ _ _ _ (words_is ws h.0 (front w (words_starts a ws) _ found))
         (members_is ws ds h.1 (back w (words_starts a ws) _ found))
     struct_item_is (member_semi semi) h found = refl
     struct_item_is (member_assert it) h found = refl
@@ -168,11 +170,13 @@ module _ (w : World) (members : MembersBegin w) (links : LinksAreMet w) (k l : F
     mem_declr_is : (d : MemDeclr) → MemDeclrHas U V W d → AreFound w (mem_declr_starts a d) →
         mem_declr_demand wk d ≡ mem_declr_demand wl d
     mem_declr_is (named d width attrs) h found =
-        declr_is row_of_name None with_skeleton without_skeleton d tt tt h.0 h.1 (front w (declr_starts a _ _ d) _ found)
+        declr_is row_of_name None with_skeleton without_skeleton d tt tt h.0 h.1
+        (front w (declr_starts a _ _ d) _ found)
     mem_declr_is (unnamed colon e attrs) h found = refl
 
     pub declr_is : (row : RowKind) (own : Option Skel) (h own_has : Having) (d : Declr) → RowFits row h →
-        OwnFits own own_has → RowMet row (declared_name d) → DeclrHas U V W d → AreFound w (declr_starts a h own_has d) →
+        OwnFits own own_has → RowMet row (declared_name d) → DeclrHas U V W d
+        → AreFound w (declr_starts a h own_has d) →
         declr_demand wk row own d ≡ declr_demand wl row own d
     declr_is row own h g (pointer star words d) fits its met has found = declr_is row own h g d fits its met has found
     declr_is row own h g (declr_name token name) fits its met has found = name_row_is row h token name fits met found
@@ -211,6 +215,7 @@ module _ (w : World) (members : MembersBegin w) (links : LinksAreMet w) (k l : F
     params_is own bare h i (more_params ws d attrs ps) fits has found =
         let behind = back w (words_starts a ws) _ found in
         joined _ _ _ _ (words_is ws has.1.0 (front w (words_starts a ws) _ found)) (joined _ _ _ _
-        (some_declr_is (param_kind own bare i) h d (fits i) (params_met own bare i (some_declared_name d) has.0) has.1.1.0
+        (some_declr_is (param_kind own bare i) h d (fits i)
+        (params_met own bare i (some_declared_name d) has.0) has.1.1.0
         (front w (some_declr_starts a h d) _ behind))
         (params_is own bare h (suc i) ps fits has.1.1.1 (back w (some_declr_starts a h d) _ behind)))

@@ -39,7 +39,8 @@ use Rattle.missing_laws.proofs.Values.{agrees, assocs_agree, flags_from, two, tw
 use Rattle.missing_laws.proofs.Declaring.{RowFits, RowMet, params_is, declr_is, some_declr_is, words_is}
 use Rattle.missing_laws.proofs.Parts.{addressed_is, picked_is, v_is, x_is, ref_is, own_is_same, some_own_is, place_own_is, there, formed_is, computed_is, cast_is, prefixed_is, here_is, placing_is, typing_is, use_is, item_is, behind_is, initialised_is, name_found}
 
-module _ (w : World) (members : MembersBegin w) (links : LinksAreMet w) (k l : Further) (same_own : k.2 ≡ l.2) (f : Option Place) where
+module _ (w : World) (members : MembersBegin w) (links : LinksAreMet w) (k l : Further) (same_own : k.2 ≡ l.2)
+    (f : Option Place) where
   abbrev u : World
   u = world w k
 
@@ -122,7 +123,8 @@ module _ (w : World) (members : MembersBegin w) (links : LinksAreMet w) (k l : F
 
   -- an operator before its operand, by the constraints of that
   prefix_demand_is : (aims : Bool) (token : ℕ) (p : Punct) (e : Expr) → ExprHas Fits U V W (prefix token p e) →
-      ExprHas Typed U V W (prefix token p e) → AreFound w (expr_starts b (prefix token p e)) → AreFound w (expr_starts b e) →
+      ExprHas Typed U V W (prefix token p e) → AreFound w (expr_starts b (prefix token p e))
+      → AreFound w (expr_starts b e) →
       demand_in u true e ≡ demand_in v true e → demand_in u false e ≡ demand_in v false e →
       demand_in u aims (prefix token p e) ≡ demand_in v aims (prefix token p e)
   prefix_demand_is aims token signs.Ampersand e s t h he addressed taken = joined _ _ _ _ addressed
@@ -194,7 +196,8 @@ module _ (w : World) (members : MembersBegin w) (links : LinksAreMet w) (k l : F
   pick_is token cs fs are e is found =
       ap (λ xs. picked u (vals.left_of xs) (own u token) (span w token token)) e
       ∙ picked_is w members k l same_own f (vals.left_of (fs l)) (own u token) (own v token) (span w token token)
-      (λ many. some_own_is w members k l same_own f token _ is (there w members k l same_own f (is_fresh_pick cs) _ found
+      (λ many.
+      some_own_is w members k l same_own f token _ is (there w members k l same_own f (is_fresh_pick cs) _ found
       (sym (ap (λ n. nat_lt 1 n) (as_many (left_of cs) (λ j. vals.left_of (fs j)) (left_are cs fs are) l)) ∙ many)))
 
   selection_is : (token : ℕ) (o : Option CType) (all : List Association) (fs : Further → List vals.Candidate) →
@@ -315,7 +318,8 @@ module _ (w : World) (members : MembersBegin w) (links : LinksAreMet w) (k l : F
         let hd = back w (words_starts b ws) _ hw in
         let here = some_own_is w members k l same_own f keyword _ t.0
         (back w (some_declr_starts b with_skeleton d) _ hd) in
-        joined _ _ _ _ (demand_is false e s.1.0 t.1.0 he) (joined _ _ _ _ (specs_is ws s.1.1.0 (front w (words_starts b ws) _ hw))
+        joined _ _ _ _ (demand_is false e s.1.0 t.1.0 he)
+        (joined _ _ _ _ (specs_is ws s.1.1.0 (front w (words_starts b ws) _ hw))
         (joined _ _ _ _ (type_is d s.0.1 s.1.1.1 (front w (some_declr_starts b with_skeleton d) _ hd)) (joined _ _ _ _
         (formed_is w members k l same_own f (span w keyword closing) _ _ here) (joined _ _ _ _
         (typing_is w members k l same_own f (type_of_name u ws) _ _ here)
@@ -330,7 +334,8 @@ module _ (w : World) (members : MembersBegin w) (links : LinksAreMet w) (k l : F
         let he = front w (expr_starts b e) _ h in
         let h2 = front w (expr_starts b e2) _ (back w (expr_starts b e) _ h) in
         joined _ _ _ _ (demand_is false e s.1.0 t.1.0 he) (joined _ _ _ _ (demand_is false e2 s.1.1 t.1.1 h2)
-        (ap2 (λ (x y : Skel). flowing (is_zero w.spelling w.names e2) x y (all_lattices w) (span w keyword closing)) _ _ _ _
+        (ap2
+        (λ (x y : Skel). flowing (is_zero w.spelling w.names e2) x y (all_lattices w) (span w keyword closing)) _ _ _ _
         (x_of e2 s.1.1 t.1.1 h2) (x_of e s.1.0 t.1.0 he)))
     demand_is aims (offset keyword opening ws d separator name steps closing) s t h = refl
     demand_is aims (complex_part keyword e) s t h = demand_is aims e s.1 t.1 h
@@ -357,7 +362,8 @@ module _ (w : World) (members : MembersBegin w) (links : LinksAreMet w) (k l : F
         (λ j. skels.candidates_of (world w j) keyword 0 xs)
         (λ c is. subst (λ cs. AreOf cs (λ (j : Further). skels.candidates_of (world w j) keyword 0 xs))
         (sym (selected_is c (associations_of w.spelling w.names xs)))
-        (assocs_agree w U V W f members keyword 0 c (has_of_type (Some c) (associations_of w.spelling w.names xs)) xs s.1 hx
+        (assocs_agree w U V W f members keyword 0 c
+        (has_of_type (Some c) (associations_of w.spelling w.names xs)) xs s.1 hx
         (flags_from w U V W f members keyword c (shapes.value (shape_of w.spelling w.names e))
         (associations_of w.spelling w.names xs) is s.0.1.1)))
         (candidates_are keyword 0 xs s.1 t.1 hx) t.0 (back w (assocs_starts b xs) _ behind))
@@ -499,7 +505,8 @@ module _ (w : World) (members : MembersBegin w) (links : LinksAreMet w) (k l : F
     stmt_is (while_stmt keyword opening e closing it) s t h = joined _ _ _ _
         (demand_is false e s.0 t.0 (front w (expr_starts b e) _ h)) (stmt_is it s.1 t.1 (back w (expr_starts b e) _ h))
     stmt_is (do_stmt keyword it keyword2 opening e closing semi) s t h = joined _ _ _ _
-        (stmt_is it s.0 t.0 (front w (stmt_starts b it) _ h)) (demand_is false e s.1 t.1 (back w (stmt_starts b it) _ h))
+        (stmt_is it s.0 t.0 (front w (stmt_starts b it) _ h))
+        (demand_is false e s.1 t.1 (back w (stmt_starts b it) _ h))
     stmt_is (for_stmt keyword opening start e semi e2 closing it) s t h =
         let behind = back w (for_start_starts b start) _ h in
         let last = back w (some_expr_starts b e) _ behind in
@@ -512,8 +519,8 @@ module _ (w : World) (members : MembersBegin w) (links : LinksAreMet w) (k l : F
     stmt_is (break_stmt keyword semi) s t h = refl
     stmt_is (return_stmt keyword no_expr semi) s t h = refl
     stmt_is (return_stmt keyword (some_expr e) semi) s t h = joined _ _ _ _ (demand_is false e s t h)
-        (ap2 (λ (o : Option Skel) (x : Skel). returned u o (is_zero w.spelling w.names e) x (span w keyword semi)) _ _ _ _
-        same_own (x_of e s t h))
+        (ap2 (λ (o : Option Skel) (x : Skel). returned u o (is_zero w.spelling w.names e) x
+        (span w keyword semi)) _ _ _ _ same_own (x_of e s t h))
     stmt_is (asm_stmt keyword words group semi) s t h = refl
     stmt_is (case_range keyword e dots e2 colon it) s t h =
         stmt_is it s t (back w (expr_starts _ e2) _ (back w (expr_starts _ e) _ h))
@@ -569,8 +576,10 @@ module _ (w : World) (members : MembersBegin w) (links : LinksAreMet w) (k l : F
       let hd = front w (declr_starts b (of_function g) without_skeleton d) _ h in
       let behind = back w (declr_starts b (of_function g) without_skeleton d) _ h in
       joined _ _ _ _ (ap (λ own. declr_demand u (identified_kind u own (declared_name d)) None d) p
-      ∙ declr_is w members links k l false f (identified_kind v e (declared_name d)) None (of_function g) without_skeleton d
-      (row_fits (identified_kind v e (declared_name d)) g) tt (identified_met e (declared_name d)) s.1.0 hd) (joined _ _ _ _
+      ∙ declr_is w members links k l false f (identified_kind v e (declared_name d)) None
+      (of_function g) without_skeleton d
+      (row_fits (identified_kind v e (declared_name d)) g) tt (identified_met e (declared_name d)) s.1.0 hd)
+      (joined _ _ _ _
       (some_init_is (declared_name d) it (initialised_is w members k l same_own g (declared_name d) s.0
       (λ name is. name_found w b (of_function g) without_skeleton d name is hd)) s.1.1.0 t.1.1.0
       (front w (some_init_starts b it) _ behind))
@@ -578,7 +587,8 @@ module _ (w : World) (members : MembersBegin w) (links : LinksAreMet w) (k l : F
 
   old_declarations_are : (g : Option Place) (c e : Option Skel) → c ≡ e → (ds : List Declaration) →
       DeclarationsHave Fits U V W ds → DeclarationsHave Typed U V W ds →
-      AreFound w (old_declarations_starts b (of_function g) ds) → old_declarations_demand u c ds ≡ old_declarations_demand v e ds
+      AreFound w (old_declarations_starts b (of_function g) ds)
+      → old_declarations_demand u c ds ≡ old_declarations_demand v e ds
   old_declarations_are g c e p [] s t h = refl
   old_declarations_are g c e p (declaration exts ws ds semi ∷ others) s t h =
       let one = front w (old_declaration_starts b (of_function g) (declaration exts ws ds semi)) _ h in
@@ -588,7 +598,8 @@ module _ (w : World) (members : MembersBegin w) (links : LinksAreMet w) (k l : F
       (back w (old_declaration_starts b (of_function g) (declaration exts ws ds semi)) _ h))
 
   plain_is : (d : Declr) → NamedHas V (declared_name d) → DeclrHas U V W d →
-      AreFound w (declr_starts b with_skeleton without_skeleton d) → declr_demand u row_of_name None d ≡ declr_demand v row_of_name None d
+      AreFound w (declr_starts b with_skeleton without_skeleton d)
+      → declr_demand u row_of_name None d ≡ declr_demand v row_of_name None d
   plain_is d met has found =
       declr_is w members links k l false f row_of_name None with_skeleton without_skeleton d tt tt met has found
 
@@ -609,7 +620,8 @@ module _ (w : World) (members : MembersBegin w) (links : LinksAreMet w) (k l : F
   old_declr_is g c e p ds (declr_name token name) met s t h = plain_is (declr_name token name) met s h
   old_declr_is g c e p ds (base_name token) met s t h = refl
   old_declr_is g c e p ds (abs_pointer star words d) met s t h = plain_is (abs_pointer star words d) met s h
-  old_declr_is g c e p ds (abs_paren opening attrs d closing) met s t h = plain_is (abs_paren opening attrs d closing) met s h
+  old_declr_is g c e p ds (abs_paren opening attrs d closing) met s t h =
+      plain_is (abs_paren opening attrs d closing) met s h
   old_declr_is g c e p ds (abs_array d opening words size closing) met s t h =
       plain_is (abs_array d opening words size closing) met s h
   old_declr_is g c e p ds (abs_params d opening ps dots closing) met s t h =

@@ -83,9 +83,12 @@ module _ (u : Spelling) where
         joins (enter_grows s) (joins (block_items_grow items _) (leave_grows _))
     expr_grows c (va_arg keyword opening e separator ws d closing) s = joins (expr_grows false e s)
         (joins (words_grow false ws (base []) [] _) (joins (some_declr_grows d _) (type_grows _ _ _)))
-    expr_grows c (va_start keyword opening e separator e2 closing) s = joins (expr_grows false e s) (expr_grows false e2 _)
-    expr_grows c (va_copy keyword opening e separator e2 closing) s = joins (expr_grows false e s) (expr_grows false e2 _)
-    expr_grows c (offset keyword opening ws d separator name steps closing) s = joins (words_grow false ws (base []) [] s)
+    expr_grows c (va_start keyword opening e separator e2 closing) s =
+        joins (expr_grows false e s) (expr_grows false e2 _)
+    expr_grows c (va_copy keyword opening e separator e2 closing) s =
+        joins (expr_grows false e s) (expr_grows false e2 _)
+    expr_grows c (offset keyword opening ws d separator name steps closing) s =
+        joins (words_grow false ws (base []) [] s)
         (joins (some_declr_grows d _) (joins (type_grows _ _ _) (desigs_grow steps _)))
     expr_grows c (complex_part keyword e) s = expr_grows false e s
     expr_grows c (label_use token name) s = stays s
@@ -145,7 +148,8 @@ module _ (u : Spelling) where
     word_grows alone (align attr) t s = stays s
     word_grows alone (auto_word token) t s = stays s
 
-    pub struct_grows : (alone : Bool) (kind : TagKind) (keyword : ℕ) (tag : Option Identifier) (body : SomeBody) (t : CType)
+    pub struct_grows : (alone : Bool) (kind : TagKind) (keyword : ℕ) (tag : Option Identifier)
+        (body : SomeBody) (t : CType)
         (s : Names) → Grows s (struct_named u alone kind keyword tag body t s).names
     struct_grows alone kind keyword tag no_body t s = tag_named_grows alone kind tag t s
     struct_grows alone kind keyword tag (some_body opening items closing) t s =
@@ -222,7 +226,8 @@ module _ (u : Spelling) where
     pub params_grow : (i : ℕ) (own : Option Place) (ps : Params) (s : Names) → Grows s (params_named u i own ps s).names
     params_grow i own no_params s = stays s
     params_grow i own (more_params ws d attrs ps) s = joins (words_grow false ws (base []) [] s)
-        (joins (some_declr_grows d _) (joins (param_grows u (some_declared_name d) i own _ _) (params_grow (suc i) own ps _)))
+        (joins (some_declr_grows d _)
+        (joins (param_grows u (some_declared_name d) i own _ _) (params_grow (suc i) own ps _)))
 
     pub init_grows : (it : Init) (s : Names) → Grows s (init_named u it s)
     init_grows (init_value e) s = expr_grows false e s
@@ -253,7 +258,8 @@ module _ (u : Spelling) where
     pub init_declrs_grow : (words : List Keyword) (is_untagged : Bool) (t : CType) (ds : InitDeclrs) (s : Names) →
         Grows s (init_declrs_named u words is_untagged t ds s)
     init_declrs_grow words is_untagged t no_init_declrs s = stays s
-    init_declrs_grow words is_untagged t (more_init_declrs attrs d asm_label attrs2 it ds) s = joins (declr_grows None d s)
+    init_declrs_grow words is_untagged t (more_init_declrs attrs d asm_label attrs2 it ds) s =
+        joins (declr_grows None d s)
         (joins (some_grows u (untagged_number is_untagged t) (declared_name d) words _ _)
         (joins (some_init_grows it _) (init_declrs_grow words false t ds _)))
 
@@ -269,7 +275,8 @@ module _ (u : Spelling) where
         joins (declr_grows None d s) (joins (auto_grows words is_untagged semi t (declared_name d) it _)
         (auto_declrs_grow words false semi t ds _))
 
-    pub auto_grows : (words : List Keyword) (is_untagged : Bool) (semi : ℕ) (t : CType) (o : Option Named) (it : SomeInit)
+    pub auto_grows : (words : List Keyword) (is_untagged : Bool) (semi : ℕ) (t : CType) (o : Option Named)
+        (it : SomeInit)
         (s : Names) → Grows s (auto_named u words is_untagged semi t o it s)
     auto_grows words is_untagged semi t o no_init s = stays s
     auto_grows words is_untagged semi t o (some_init equal (init_braced list)) s = stays s
@@ -290,7 +297,8 @@ module _ (u : Spelling) where
     block_item_grows (block_labels keyword names semi) s = stays s
 
     pub stmt_grows : (t : Stmt) (s : Names) → Grows s (stmt_named u t s)
-    stmt_grows (block opening items closing) s = joins (enter_grows s) (joins (block_items_grow items _) (leave_grows _))
+    stmt_grows (block opening items closing) s =
+        joins (enter_grows s) (joins (block_items_grow items _) (leave_grows _))
     stmt_grows (expr_stmt e semi) s = some_expr_grows e s
     stmt_grows (attr_stmt attrs semi) s = stays s
     stmt_grows (label name colon attrs t) s = stmt_grows t s
@@ -329,7 +337,8 @@ module _ (u : Spelling) where
       Grows s (function_by u it ws d items s)
   function_grows None ws d items s = stays s
   function_grows (Some it) ws d items s = joins (words_grow false ws (base []) [] s) (joins (declr_grows _ d _)
-      (joins (sized_grows (place u it.token) _ _) (joins (thing_grows (said_words ws) (place u it.token) (u.key it.name) _ _)
+      (joins (sized_grows (place u it.token) _ _)
+      (joins (thing_grows (said_words ws) (place u it.token) (u.key it.name) _ _)
       (joins (entered_grows (place u it.token) _ _ _ _) (joins (block_items_grow items _) (left_grows _))))))
 
   -- lists of identifiers, with the declarations behind them
@@ -362,7 +371,8 @@ module _ (u : Spelling) where
   old_declrs_grow own words is_untagged t (more_init_declrs attrs d asm_label attrs2 init ds) it =
       joins (declr_grows None d it.names) (joins
       (olds_where (has_word keywords.Typedef words) _ _ _
-      (some_grows u (untagged_number is_untagged t) (declared_name d) words _ _) (old_some_grows own (declared_name d) _ _))
+      (some_grows u (untagged_number is_untagged t) (declared_name d) words _ _)
+      (old_some_grows own (declared_name d) _ _))
       (joins (some_init_grows init _) (old_declrs_grow own words false t ds _)))
 
   pub old_declaration_grows : (own : Option Place) (d : Declaration) (it : Olds) →
@@ -393,7 +403,8 @@ module _ (u : Spelling) where
   old_declr_grows own ds (declr_paren opening attrs d closing) s = old_declr_grows own ds d s
   old_declr_grows own ds (array d opening words size closing) s =
       joins (old_declr_grows own ds d s) (some_size_grows size _)
-  old_declr_grows own ds (params d opening ps dots closing) s = joins (old_declr_grows own ds d s) (joins (enter_grows _)
+  old_declr_grows own ds (params d opening ps dots closing) s =
+      joins (old_declr_grows own ds d s) (joins (enter_grows _)
       (joins (params_grow 0 None ps _) (leave_grows _)))
   old_declr_grows own ds (declr_name token name) s = declr_grows None (declr_name token name) s
   old_declr_grows own ds (base_name token) s = declr_grows None (base_name token) s
@@ -401,7 +412,8 @@ module _ (u : Spelling) where
   old_declr_grows own ds (abs_paren opening attrs d closing) s = declr_grows None (abs_paren opening attrs d closing) s
   old_declr_grows own ds (abs_array d opening words size closing) s =
       declr_grows None (abs_array d opening words size closing) s
-  old_declr_grows own ds (abs_params d opening ps dots closing) s = declr_grows None (abs_params d opening ps dots closing) s
+  old_declr_grows own ds (abs_params d opening ps dots closing) s =
+      declr_grows None (abs_params d opening ps dots closing) s
 
   pub old_function_grows : (it : Option Named) (ws : SpecWords) (d : Declr) (ds : List Declaration) (items : BlockItems)
       (s : Names) → Grows s (old_function_by u it ws d ds items s)

@@ -153,7 +153,8 @@ static_grows false unit name s = stays s
 pub thing_grows : (words : List Keyword) (at : Place) (name : ℕ) (t : CType) (s : Names) →
     Grows s (declared_thing words at name t s)
 thing_grows words at name t s =
-    joins (new_grows is_new name at s) (joins (static_grows is_static at.0 name (thing_where is_new name at s)) (record {
+    joins (new_grows is_new name at s)
+    (joins (static_grows is_static at.0 name (thing_where is_new name at s)) (record {
       declared = more old.declared _;
       uses = same old.uses;
       types = same old.type_names;
@@ -202,7 +203,8 @@ known_grows words name (Some n) s = by (has_word keywords.Typedef words && is_at
     by false = stays s
 
 -- what is known of names grows by a declarator, be it with a name or without
-pub some_grows : (u : Spelling) (untagged : Option ℕ) (it : Option Named) (words : List Keyword) (t : CType) (s : Names) →
+pub some_grows : (u : Spelling) (untagged : Option ℕ) (it : Option Named) (words : List Keyword)
+    (t : CType) (s : Names) →
     Grows s (declared_some u untagged it words t s)
 some_grows u untagged None words t s = stays s
 some_grows u untagged (Some it) words t s =

@@ -203,7 +203,10 @@ module _ (w : World) (members : MembersBegin w) where
           → AssocHas H U V W x
       assoc_has (typed_assoc ws d colon e) s t h = (
         s.0,
-        (s.1.0, expr_has e s.1.1 t.1.1 (back w (some_declr_starts b with_skeleton d) _ (back w (words_starts b ws) _ h))),
+        (
+          s.1.0,
+          expr_has e s.1.1 t.1.1 (back w (some_declr_starts b with_skeleton d) _ (back w (words_starts b ws) _ h)),
+        ),
       )
       assoc_has (default_assoc keyword colon e) s t h = expr_has e s t h
 
@@ -365,7 +368,8 @@ module _ (w : World) (members : MembersBegin w) where
         (s.0, old_declrs_have g ds s.1 t.1 (back w (words_starts b ws) _ h))
 
     old_declarations_have : (g : Option Place) (ds : List Declaration) → DeclarationsHave S U V W ds →
-        DeclarationsHave T U V W ds → AreFound w (old_declarations_starts b (of_function g) ds) → DeclarationsHave H U V W ds
+        DeclarationsHave T U V W ds → AreFound w (old_declarations_starts b (of_function g) ds)
+        → DeclarationsHave H U V W ds
     old_declarations_have g [] s t h = tt
     old_declarations_have g (d ∷ ds) s t h = (
       old_declaration_has g d s.0 t.0 (front w (old_declaration_starts b (of_function g) d) _ h),

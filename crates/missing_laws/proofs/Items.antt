@@ -48,7 +48,8 @@ module _ (w : World) (members : MembersBegin w) (links : LinksAreMet w) (k l : F
   function_is : (ws : SpecWords) (d : Declr) (items : BlockItems) (f : Option Place) (c e : Option Skel) → c ≡ e →
       words_demand (world w k) ws ≡ words_demand (world w l) ws →
       declr_demand (world w k) row_of_name c d ≡ declr_demand (world w l) row_of_name c d →
-      block_items_demand (record (world w k) { own = c }) items ≡ block_items_demand (record (world w l) { own = e }) items →
+      block_items_demand (record (world w k) { own = c }) items
+      ≡ block_items_demand (record (world w l) { own = e }) items →
       words_demand (world w k) ws ++ (declr_demand (world w k) row_of_name c d
       ++ block_items_demand (record (world w k) { own = c }) items)
       ≡ words_demand (world w l) ws ++ (declr_demand (world w l) row_of_name e d
@@ -101,8 +102,10 @@ more_none w = ap2 (λ (xs : List Numbered) (ps : List Place). record w { skeleto
 
 -- the constraints of items stay whatever further skeletons and sites there are, where each expression has its type
 pub missing_nothing : (w : World) (items : List Item) → MembersBegin w → LinksAreMet w →
-    ItemsHave (IsSettled w) (TokenBegins w) (FirstIsMet w) (RoleHasSkeleton w) items → ItemsHave (HasType w) (TokenBegins w) (FirstIsMet w) (RoleHasSkeleton w) items →
-    AreFound w (items_starts (has_access w.lattices) w.spelling w.names items) → (skeletons : List Numbered) (sites : List Place) →
+    ItemsHave (IsSettled w) (TokenBegins w) (FirstIsMet w) (RoleHasSkeleton w) items
+    → ItemsHave (HasType w) (TokenBegins w) (FirstIsMet w) (RoleHasSkeleton w) items →
+    AreFound w (items_starts (has_access w.lattices) w.spelling w.names items)
+    → (skeletons : List Numbered) (sites : List Place) →
     items_demand (more w skeletons sites) items ≡ items_demand w items
 missing_nothing w items members links s t h skeletons sites =
     items_are w members links (skeletons, sites, w.own) ([], [], w.own) refl items s t h

@@ -462,13 +462,15 @@ module _ (w : World) (well : AreWell w.names.declared) where
   good_with_thing : (bs : List Bool) (words : List Keyword) (at : Place) (name : ℕ) (s : Names) → Stands at →
       Good bs s → Good bs (with_thing words at name s)
   good_with_thing bs words at name s k h =
-      good_static bs (has_word keywords.Static words) at.0 name _ (good_new bs (is_place (linked name at s) at) name at s k h)
+      good_static bs (has_word keywords.Static words) at.0 name _
+      (good_new bs (is_place (linked name at s) at) name at s k h)
 
   pub good_thing : (b : Bool) (bs : List Bool) (words : List Keyword) (at : Place) (name : ℕ) (t : CType) (s : Names) →
       Stands at → Good (b ∷ bs) s → Good (b ∷ bs) (declared_thing words at name t s)
   good_thing b bs words at name t s k h =
       let old = good_with_thing (b ∷ bs) words at name s k h in
-      good_bound b bs name (means_thing (linked name at s)) _ (λ e. meant (linked name at s) (linked_stands (b ∷ bs) at name s h k)) (record {
+      good_bound b bs name (means_thing (linked name at s)) _
+      (λ e. meant (linked name at s) (linked_stands (b ∷ bs) at name s h k)) (record {
         scopes = old.scopes;
         things = old.things;
         round = old.round;
@@ -583,7 +585,9 @@ module _ (w : World) (well : AreWell w.names.declared) where
   own_at : (xs : List Own) (i : ℕ) (it : Own) → OwnGood xs → slice_get xs i ≡ Some it
       → Begins w it.at (pointer [] it.type)
   own_at [] i it h e = absurd cc
-  own_at (x ∷ xs) zero it h e = let same : x ≡ it = cc in subst (λ (y : Own). Begins w y.at (pointer [] y.type)) same h.0
+  own_at (x ∷ xs) zero it h e =
+      let same : x ≡ it = cc in
+      subst (λ (y : Own). Begins w y.at (pointer [] y.type)) same h.0
   own_at (x ∷ xs) (suc i) it h e = own_at xs i it h.1 e
 
   pub body_known : (o : Option Body) (name : ℕ) (it : Known) → BodyGood o → member_in o name ≡ Some it →
@@ -734,7 +738,8 @@ module _ (w : World) (well : AreWell w.names.declared) where
       let means_it = meant_there q f token d there refl found in (
         good_here true bs (at w token) name object_role t own s (λ e. means_it) h,
         first_met token d there (first_begins d refl
-            (met d.first (here_meant true bs (at w token) name s h refl means_it) (well.firsts (at w token) d there refl))),
+            (met d.first (here_meant true bs (at w token) name s h refl means_it)
+            (well.firsts (at w token) d there refl))),
       )
 
   pub typedef_good : (b : Bool) (bs : List Bool) (token name : ℕ) (t : CType) (s : Names) →
@@ -768,7 +773,8 @@ module _ (w : World) (well : AreWell w.names.declared) where
   -- a parameter, which has a skeleton where it is a function's own
   pub param_good : (q : Bool) (f : Option Place) (c : Bool) (bs : List Bool) (it : Option Named) (i : ℕ)
       (own : Option Place) (t : CType) (s : Names) → Grows (declared_param w.spelling it i own t s) S →
-      ((name : Named) → it ≡ Some name → c ≡ true → (g : Option Place) × AreFound w (name_start (around w q g) name.token)) →
+      ((name : Named) → it ≡ Some name → c ≡ true → (g : Option Place)
+      × AreFound w (name_start (around w q g) name.token)) →
       Good (c ∷ bs) s → Good (c ∷ bs) (declared_param w.spelling it i own t s)
   param_good q f c bs None i own t s g found h = h
   param_good q f c bs (Some it) i own t s g found h =
@@ -780,7 +786,8 @@ module _ (w : World) (well : AreWell w.names.declared) where
       (good_sized (c ∷ bs) (at w it.token) t s h)
 
   -- a parameter that is declared behind a list of identifiers
-  pub old_param_good : (q : Bool) (f : Option Place) (bs : List Bool) (it : Named) (i : ℕ) (own : Option Place) (t : CType)
+  pub old_param_good : (q : Bool) (f : Option Place) (bs : List Bool) (it : Named) (i : ℕ)
+      (own : Option Place) (t : CType)
       (s : Names) → Grows (declared_param w.spelling (Some it) i own t s) S →
       AreFound w (name_start (around w q f) it.token) → Good (true ∷ bs) s →
       Good (true ∷ bs) (declared_param w.spelling (Some it) i own t s) × FirstIsMet w it.token
@@ -803,9 +810,8 @@ module _ (w : World) (well : AreWell w.names.declared) where
   param_has (Some it) i own t s g =
       let old = sized (at w it.token) t s in
       let there = here_there (at w it.token) (w.spelling.key it.name) (parameter_role i) t own old g in
-      λ d e. subst (λ (other : Declared). has_skeleton other.role ≡ true)
-      (one_declared (at w it.token) (here_d (at w it.token) (w.spelling.key it.name) (parameter_role i) t own old) d there e)
-      refl
+      λ d e. subst (λ (other : Declared). has_skeleton other.role ≡ true) (one_declared (at w it.token)
+      (here_d (at w it.token) (w.spelling.key it.name) (parameter_role i) t own old) d there e) refl
 
   -- a name of a declaration
   pub some_good : (q : Bool) (f : Option Place) (bs : List Bool) (untagged : Option ℕ) (it : Option Named)
@@ -814,7 +820,8 @@ module _ (w : World) (well : AreWell w.names.declared) where
       Good (true ∷ bs) (declared_some w.spelling untagged it words t s) × NamedHas (FirstIsMet w) it
   some_good q f bs untagged None words t s g found h = (h, tt)
   some_good q f bs untagged (Some it) words t s g found h =
-      let one = by (has_word keywords.Typedef words) (is_at_file old || (is_function t || has_word keywords.Extern words))
+      let one =
+      by (has_word keywords.Typedef words) (is_at_file old || (is_function t || has_word keywords.Extern words))
       (joins (known_grows words key untagged _) g) in
       (good_known (true ∷ bs) words key untagged _ one.0, one.1)
     where

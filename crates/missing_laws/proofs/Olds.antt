@@ -84,13 +84,15 @@ module _ (w : World) (well : AreWell w.names.declared) (uses_differ : UsesDiffer
 
   old_some_ok : (bs : List Bool) (o : Option Named) (t : CType) (olds : Olds) →
       Grows (old_declared_some u (Some own) o t olds).names S →
-      ((name : Named) → o ≡ Some name → AreFound w (name_start (around w false f) name.token)) → G (true ∷ bs) olds.names →
+      ((name : Named) → o ≡ Some name → AreFound w (name_start (around w false f) name.token))
+      → G (true ∷ bs) olds.names →
       G (true ∷ bs) (old_declared_some u (Some own) o t olds).names × NamedHas V o
   old_some_ok bs None t olds g found h = (h, tt)
   old_some_ok bs (Some it) t olds g found h =
       declared_ok bs it t (number_of_identifier (u.key it.name) olds.list) olds g (found it refl) h
 
-  old_declrs_ok : (words : List Keyword) (is_untagged : Bool) (t : CType) (ds : InitDeclrs) (bs : List Bool) (it : Olds) →
+  old_declrs_ok : (words : List Keyword) (is_untagged : Bool) (t : CType) (ds : InitDeclrs)
+      (bs : List Bool) (it : Olds) →
       AllTrue w well bs → AreInitDeclrs all ds → AreChosen w (old_declrs_selections u S ds) →
       AreFound w (old_declrs_starts a (of_function f) ds) →
       Grows (old_declrs_named u (Some own) words is_untagged t ds it).names S → G (true ∷ bs) it.names →
@@ -103,7 +105,8 @@ module _ (w : World) (well : AreWell w.names.declared) (uses_differ : UsesDiffer
       let n : Names = (declr_named u None d it.names).names in
       let c : CType = applied (declr_named u None d it.names).pieces t in
       let olds : Olds = record it { names = n } in
-      let x : Olds = record olds { names = declared_some u (untagged_number is_untagged t) (declared_name d) words c n } in
+      let x : Olds =
+      record olds { names = declared_some u (untagged_number is_untagged t) (declared_name d) words c n } in
       let y : Olds = old_declared_some u (Some own) (declared_name d) (decayed c) olds in
       let after : Olds = if has_word keywords.Typedef words then x else y in
       let last : Olds = record after { names = some_init_named u init after.names } in
@@ -112,15 +115,17 @@ module _ (w : World) (well : AreWell w.names.declared) (uses_differ : UsesDiffer
       let gn : Grows n after.names = olds_where u (has_word keywords.Typedef words) n x y
       (some_grows u (untagged_number is_untagged t) (declared_name d) words c n)
       (old_some_grows u (Some own) (declared_name d) (decayed c) olds) in
-      let one = declr_ok w well uses_differ clean all None false None (of_function f) without_skeleton d true bs it.names tt
-      wf.1 fd (joins gn gi) h in
+      let one = declr_ok w well uses_differ clean all None false None
+      (of_function f) without_skeleton d true bs it.names tt wf.1 fd (joins gn gi) h in
       let two = either_olds (has_word keywords.Typedef words) (true ∷ bs) x y (NamedHas V (declared_name d)) gi
       (λ is gx. some_good w well false f bs (untagged_number is_untagged t) (declared_name d) words c n gx
       (λ name e. name_found w a (of_function f) without_skeleton d name e fd) one.0)
       (λ is gy. old_some_ok bs (declared_name d) (decayed c) olds gy
       (λ name e. name_found w a (of_function f) without_skeleton d name e fd) one.0) in
-      let three = some_init_ok w well uses_differ clean all None false false init true bs after.names (λ is. (refl, l)) wf.5
-      (λ is. first_chosen w (some_init_selections u S init) _ those) (front w (some_init_starts a init) _ behind) gr two.0 in
+      let three =
+      some_init_ok w well uses_differ clean all None false false init true bs after.names (λ is. (refl, l)) wf.5
+      (λ is. first_chosen w (some_init_selections u S init) _ those)
+      (front w (some_init_starts a init) _ behind) gr two.0 in
       let four = old_declrs_ok words false t ds bs last l wf.6 (last_chosen w (some_init_selections u S init) _ those)
       (back w (some_init_starts a init) _ behind) g three.0 in
       (four.0, (two.1, (one.1, (three.1 refl, four.1))))
@@ -136,9 +141,11 @@ module _ (w : World) (well : AreWell w.names.declared) (uses_differ : UsesDiffer
   old_auto_ok words is_untagged semi t no_init_declrs bs s l v wf ch found g h = (h, tt)
   old_auto_ok words is_untagged semi t (more_init_declrs attrs d asm_label attrs2 no_init ds) bs s l v wf ch found g h =
       absurd (never_true v)
-  old_auto_ok words is_untagged semi t (more_init_declrs attrs d asm_label attrs2 (some_init equal (init_braced list)) ds) bs s
+  old_auto_ok words is_untagged semi t
+      (more_init_declrs attrs d asm_label attrs2 (some_init equal (init_braced list)) ds) bs s
       l v wf ch found g h = absurd (never_true v)
-  old_auto_ok words is_untagged semi t (more_init_declrs attrs d asm_label attrs2 (some_init equal (init_value e)) ds) bs s
+  old_auto_ok words is_untagged semi t
+      (more_init_declrs attrs d asm_label attrs2 (some_init equal (init_value e)) ds) bs s
       l v wf ch found g h =
       let fd = front w (declr_starts a (of_function f) without_skeleton d) _ found in
       let behind = back w (declr_starts a (of_function f) without_skeleton d) _ found in
@@ -146,7 +153,8 @@ module _ (w : World) (well : AreWell w.names.declared) (uses_differ : UsesDiffer
       let gr = joins (auto_declrs_grow u words false semi t ds _) g in
       let gt = joins (some_grows u (untagged_number is_untagged t) (declared_name d) words _ _) gr in
       let gv = joins (typed_by_grows u semi _ _) gt in
-      let one = declr_ok w well uses_differ clean all None false None (of_function f) without_skeleton d true bs s tt wf.1 fd
+      let one =
+      declr_ok w well uses_differ clean all None false None (of_function f) without_skeleton d true bs s tt wf.1 fd
       (joins (expr_grows u false e _) gv) h in
       let two = expr_ok w well uses_differ clean all None false false false e true bs _ (λ is. (refl, l)) wf.5.0
       (λ is. first_chosen w (expr_selections u S e) _ those) (front w (expr_starts a e) _ behind) gv one.0 in
@@ -164,7 +172,8 @@ module _ (w : World) (well : AreWell w.names.declared) (uses_differ : UsesDiffer
   old_declaration_ok (declaration exts ws ds semi) bs it l wf ch found g h =
       let behind = back w (words_starts a ws) _ found in
       let those = last_chosen w (words_selections u S ws) _ ch in
-      let one = words_ok w well uses_differ clean all None false (is_tag_alone ws ds) ws (base []) [] true bs it.names wf.1
+      let one =
+      words_ok w well uses_differ clean all None false (is_tag_alone ws ds) ws (base []) [] true bs it.names wf.1
       (front w (words_starts a ws) _ found) (joins (olds_where u (are_auto ws ds) _ _ _
       (auto_declrs_grow u (said_words ws) (has_untagged ws) semi _ ds _)
       (old_declrs_grow u (Some own) (said_words ws) (has_untagged ws) _ ds _)) g) h in
@@ -182,11 +191,12 @@ module _ (w : World) (well : AreWell w.names.declared) (uses_differ : UsesDiffer
   old_declarations_ok [] bs it l wf ch found g h = (h, tt)
   old_declarations_ok (d ∷ ds) bs it l wf ch found g h =
       let one = old_declaration_ok d bs it l (All-head (IsDeclaration all) d ds wf)
-      (first_chosen w (old_declaration_selections u S d) _ ch) (front w (old_declaration_starts a (of_function f) d) _ found)
+      (first_chosen w (old_declaration_selections u S d) _ ch)
+      (front w (old_declaration_starts a (of_function f) d) _ found)
       (joins (old_declarations_grow u (Some own) ds (old_declaration_named u (Some own) d it)) g) h in
-      let two = old_declarations_ok ds bs (old_declaration_named u (Some own) d it) l (All-tail (IsDeclaration all) d ds wf)
-      (last_chosen w (old_declaration_selections u S d) _ ch) (back w (old_declaration_starts a (of_function f) d) _ found) g
-      one.0 in
+      let two = old_declarations_ok ds bs (old_declaration_named u (Some own) d it) l
+      (All-tail (IsDeclaration all) d ds wf) (last_chosen w (old_declaration_selections u S d) _ ch)
+      (back w (old_declaration_starts a (of_function f) d) _ found) g one.0 in
       (two.0, (one.1, two.1))
 
   identifiers_ok : (names : List Identifier) (bs : List Bool) (it : Olds) → G bs it.names →
@@ -209,7 +219,8 @@ module _ (w : World) (well : AreWell w.names.declared) (uses_differ : UsesDiffer
       let first : Olds = record { list = []; names = enter n } in
       let listed : Olds = identifiers_named u names first in
       let done : Olds = old_declarations_named u (Some own) ds listed in
-      let gf : Grows done.names S = joins (old_faults_grow u done.list done.names) (joins (keep_grows (Some own) _) g) in
+      let gf : Grows done.names S =
+      joins (old_faults_grow u done.list done.names) (joins (keep_grows (Some own) _) g) in
       let gd : Grows listed.names S = joins (old_declarations_grow u (Some own) ds listed) gf in
       let one = declr_ok w well uses_differ clean all None false None with_skeleton without_skeleton d b bs s tt wf.0
       (front w (declr_starts a with_skeleton without_skeleton d) _ found)
@@ -217,7 +228,8 @@ module _ (w : World) (well : AreWell w.names.declared) (uses_differ : UsesDiffer
       let two = identifiers_ok names (true ∷ b ∷ bs) first (good_enter w well true (b ∷ bs) n one.0) in
       let three = old_declarations_ok ds (b ∷ bs) listed l wfs (last_chosen w (declr_selections u S d) _ ch)
       (back w (declr_starts a with_skeleton without_skeleton d) _ found) gf two in (
-        good_keep w well true (b ∷ bs) (Some own) _ (inr refl) (old_faults_ok done.list (true ∷ b ∷ bs) done.names three.0),
+        good_keep w well true (b ∷ bs) (Some own) _ (inr refl)
+            (old_faults_ok done.list (true ∷ b ∷ bs) done.names three.0),
         (one.1, three.1),
       )
   old_declr_ok ds (pointer star words d) b bs s l wfs wf ch found g h = old_declr_ok ds d b bs s l wfs wf.1 ch found g h
@@ -235,22 +247,23 @@ module _ (w : World) (well : AreWell w.names.declared) (uses_differ : UsesDiffer
       let one = old_declr_ok ds d b bs s l wfs wf.0 (first_chosen w (old_declr_selections u S ds d) _ ch)
       (front w (old_declr_starts a (of_function f) ds d) _ found)
       (joins (enter_grows _) (joins (params_grow u 0 None ps _) gp)) h in
-      let two = params_ok w well uses_differ clean all None false 0 None without_skeleton ps false (b ∷ bs) _ (λ e. absurd cc)
-      wf.3 (back w (old_declr_starts a (of_function f) ds d) _ found) gp (good_enter w well false (b ∷ bs) _ one.0) in
+      let two = params_ok w well uses_differ clean all None false 0 None without_skeleton ps false (b ∷ bs) _
+      (λ e. absurd cc) wf.3 (back w (old_declr_starts a (of_function f) ds d) _ found) gp
+      (good_enter w well false (b ∷ bs) _ one.0) in
       (good_leave w well false (b ∷ bs) _ two.0, (one.1, two.1))
   old_declr_ok ds (base_name token) b bs s l wfs wf ch found g h = (h, tt)
   old_declr_ok ds (declr_name token name) b bs s l wfs wf ch found g h =
-      declr_ok w well uses_differ clean all None false None with_skeleton without_skeleton (declr_name token name) b bs s
-      tt wf found g h
+      declr_ok w well uses_differ clean all None false None with_skeleton without_skeleton
+      (declr_name token name) b bs s tt wf found g h
   old_declr_ok ds (abs_pointer star words d) b bs s l wfs wf ch found g h =
-      declr_ok w well uses_differ clean all None false None with_skeleton without_skeleton (abs_pointer star words d) b bs s
-      tt wf found g h
+      declr_ok w well uses_differ clean all None false None with_skeleton without_skeleton
+      (abs_pointer star words d) b bs s tt wf found g h
   old_declr_ok ds (abs_paren opening attrs d closing) b bs s l wfs wf ch found g h =
-      declr_ok w well uses_differ clean all None false None with_skeleton without_skeleton (abs_paren opening attrs d closing) b bs s
-      tt wf found g h
+      declr_ok w well uses_differ clean all None false None with_skeleton without_skeleton
+      (abs_paren opening attrs d closing) b bs s tt wf found g h
   old_declr_ok ds (abs_array d opening words size closing) b bs s l wfs wf ch found g h =
-      declr_ok w well uses_differ clean all None false None with_skeleton without_skeleton (abs_array d opening words size closing) b bs s
-      tt wf found g h
+      declr_ok w well uses_differ clean all None false None with_skeleton without_skeleton
+      (abs_array d opening words size closing) b bs s tt wf found g h
   old_declr_ok ds (abs_params d opening ps dots closing) b bs s l wfs wf ch found g h =
-      declr_ok w well uses_differ clean all None false None with_skeleton without_skeleton (abs_params d opening ps dots closing) b bs s
-      tt wf found g h
+      declr_ok w well uses_differ clean all None false None with_skeleton without_skeleton
+      (abs_params d opening ps dots closing) b bs s tt wf found g h

@@ -249,14 +249,16 @@ module _ (w : World) (members : MembersBegin w) (k l : Further) (same_own : k.2 
 
   picking_is : (xs : List Candidate) (t : Skel) (where_ : Span) → picking wk xs t where_ ≡ picking wl xs t where_
   picking_is [] t where_ = refl
-  picking_is (x ∷ xs) t where_ = ap (λ cs. flowing x.is_zero (value x.val) t (all_lattices w) where_ ++ cs) (picking_is xs t where_)
+  picking_is (x ∷ xs) t where_ =
+      ap (λ cs. flowing x.is_zero (value x.val) t (all_lattices w) where_ ++ cs) (picking_is xs t where_)
 
   pub picked_is : (xs : List Candidate) (s t : Skel) (where_ : Span) → (nat_lt 1 (length xs) ≡ true → s ≡ t) →
       picked wk xs s where_ ≡ picked wl xs t where_
   picked_is [] s t where_ g = refl
   picked_is (x ∷ []) s t where_ g = refl
   picked_is (x ∷ (y ∷ xs)) s t where_ g = joined _ _ _ _ (formed_is where_ s t (g (more_than_one (length xs))))
-      (picking_is (x ∷ (y ∷ xs)) s where_ ∙ ap (λ c. picking wl (x ∷ (y ∷ xs)) c where_) (g (more_than_one (length xs))))
+      (picking_is (x ∷ (y ∷ xs)) s where_
+      ∙ ap (λ c. picking wl (x ∷ (y ∷ xs)) c where_) (g (more_than_one (length xs))))
 
   pub here_is : (token : ℕ) → own wk token ≡ own wl token → formed_here wk token ≡ formed_here wl token
   here_is token e = formed_is (span w token token) _ _ e

@@ -43,7 +43,8 @@ module _ {K : Type 0} where
     where
       by : (b : Bool) → AreOf (no_zeros cs) (λ k. vals.no_zeros (h.1 k)) →
           AreOf (if b then no_zeros cs else c ∷ no_zeros cs)
-          (λ k. if b then vals.no_zeros (h.1 k) else record { val = h.0 k; is_zero = c.is_zero } ∷ vals.no_zeros (h.1 k))
+          (λ k. if b then vals.no_zeros (h.1 k)
+          else record { val = h.0 k; is_zero = c.is_zero } ∷ vals.no_zeros (h.1 k))
       by true rest = rest
       by false rest = (h.0, (λ k. vals.no_zeros (h.1 k)), ((λ k. refl), (h.2.1.0, rest)))
 
@@ -106,7 +107,8 @@ module _ {K : Type 0} where
       again true o u t e there = there
       again false o u t e there = absurd cc
 
-      several : (own : Skel) (fs : List vals.Candidate) (x : Val) (b : Bool) (y : Val) (b2 : Bool) (rest : List vals.Candidate) →
+      several : (own : Skel) (fs : List vals.Candidate) (x : Val) (b : Bool) (y : Val) (b2 : Bool)
+          (rest : List vals.Candidate) →
           fs ≡ record { val = x; is_zero = b } ∷ (record { val = y; is_zero = b2 } ∷ rest) →
           pick_of own fs ≡ a_value (value_of_left own (vals.left_of fs))
       several own fs x b y b2 rest e =
@@ -115,7 +117,8 @@ module _ {K : Type 0} where
 -- the candidates by flags
 abbrev pub flagged : Bool → CType → List Association → List Candidate
 flagged has t [] = []
-flagged has t (it ∷ others) = if not has || is_candidate t it.type then it.candidate ∷ flagged has t others else flagged has t others
+flagged has t (it ∷ others) =
+    if not has || is_candidate t it.type then it.candidate ∷ flagged has t others else flagged has t others
 
 flagged_all : (t : CType) (all : List Association) → flagged false t all ≡ all_candidates all
 flagged_all t [] = refl

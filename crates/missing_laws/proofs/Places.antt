@@ -158,12 +158,14 @@ flag_there [] ys x n h =
 flag_there (z ∷ xs) ys x n h = flag_where (is_place z.at x.at) (unwrap_or (slice_get z.flags n) false) _
     (unwrap_or (slice_get x.flags n) false) (λ e. other_selection xs ys x z.at h.0 e) (flag_there xs ys x n h.1)
 
-module _ (w : World) (all : List Selection) (candidates_are : (p : Place) (n : ℕ) → w.candidate p n ≡ flag_among all p n)
+module _ (w : World) (all : List Selection)
+    (candidates_are : (p : Place) (n : ℕ) → w.candidate p n ≡ flag_among all p n)
     (differ : AreDifferent (selection_places all)) where
   pub all_chosen : (xs mid ys : List Selection) → all ≡ xs ++ (mid ++ ys) → AreChosen w mid
   all_chosen xs [] ys e = tt
   all_chosen xs (x ∷ mid) ys e = (
     λ n. candidates_are x.at n ∙ (ap (λ (its : List Selection). flag_among its x.at n) e
-        ∙ flag_there xs (mid ++ ys) x n (subst (λ (its : List Selection). AreDifferent (selection_places its)) e differ)),
+        ∙ flag_there xs (mid ++ ys) x n
+        (subst (λ (its : List Selection). AreDifferent (selection_places its)) e differ)),
     all_chosen (xs ++ x ∷ []) mid ys (e ∙ sym (append_assoc xs (x ∷ []) (mid ++ ys))),
   )

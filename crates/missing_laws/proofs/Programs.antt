@@ -27,8 +27,8 @@ use Rattle.missing_laws.specs.Finding.{AreFound, FirstIsMet, IsSettled, RoleHasS
 use Rattle.missing_laws.specs.Programs.{AreFormed, EachHasSkeletons, EachMissesNothing, EachSettled, IsAccepted, PlacesDiffer}
 use Rattle.missing_laws.proofs.Chosen.{AreChosen, first_chosen, last_chosen}
 use Rattle.name_rules.specs.Declaring.{linked}
+use Rattle.type_rules.proofs.Named.{listing_name, round_name}
 use Rattle.missing_laws.proofs.Olds.{old_declr_ok}
-use Rattle.missing_laws.proofs.Forms.{old_named}
 use Rattle.missing_laws.proofs.Found.{front, back}
 use Rattle.missing_laws.proofs.Types.{first_none, last_none}
 use Rattle.missing_laws.proofs.Typing.{items_typed_of}
@@ -39,7 +39,7 @@ use Rattle.missing_laws.proofs.Growth.{Grows, stays, joins, sized_grows, thing_g
 use Rattle.missing_laws.proofs.Growing.{block_items_grow, declr_grows, items_grow, old_declr_grows}
 use Rattle.missing_laws.proofs.Meant.{AreWell, Good, good_entered, good_left, good_none, good_sized, good_unit, members_begin, thing_good}
 use Rattle.missing_laws.proofs.Links.{links_met}
-use Rattle.missing_laws.proofs.Uses.{UsesDiffer, named_round}
+use Rattle.missing_laws.proofs.Uses.{UsesDiffer}
 use Rattle.missing_laws.proofs.Settling.{block_items_ok, decl_ok, declr_ok, words_ok}
 use Rattle.missing_laws.proofs.Places.{all_chosen, all_found, declared_differ, uses_differ}
 
@@ -68,7 +68,8 @@ module _ (w : World) (well : AreWell w.names.declared) (uses : UsesDiffer w.name
 
   function_ok : (ws : SpecWords) (d : Declr) (items : BlockItems) (f : Option Place) (o : Option Named) (s : Names) →
       declared_name d ≡ o → ((it : Named) × (declared_name d ≡ Some it)) → AreBlockItems all items →
-      AreFound w (words_starts (loud w None) ws) → AreFound w (declr_starts (loud w None) with_skeleton (of_function f) d) →
+      AreFound w (words_starts (loud w None) ws)
+      → AreFound w (declr_starts (loud w None) with_skeleton (of_function f) d) →
       AreChosen w (block_items_selections u w.names items) → IsDeclr all d → AreSpecWords all ws →
       AreFound w (block_items_starts (loud w f) items) → Grows (function_by u o ws d items s) w.names → G s →
       G (function_by u o ws d items s)
@@ -84,11 +85,13 @@ module _ (w : World) (well : AreWell w.names.declared) (uses : UsesDiffer w.name
       (joins (thing_grows (said_words ws) (place u it.token) (u.key it.name) _ _) gt) in
       let one = words_ok w well uses clean all None false false ws (base []) [] true [] s wfw fw
       (joins (declr_grows u _ d _) gd) h in
-      let two = declr_ok w well uses clean all None false _ with_skeleton (of_function f) d true [] _ tt df fd gd one.0 in
+      let two =
+      declr_ok w well uses clean all None false _ with_skeleton (of_function f) d true [] _ tt df fd gd one.0 in
       let three = thing_good w well false None true [] (said_words ws) it.token (u.key it.name) _ _ gt
       (name_found w (loud w None) with_skeleton (of_function f) d it e fd)
       (good_sized w well (true ∷ []) (place u it.token) _ _ two.0) in
-      let four = block_items_ok w well uses clean all f false false items (true ∷ []) _ (λ is. (refl, tt)) wf (λ is. ch) fi gl
+      let four =
+      block_items_ok w well uses clean all f false false items (true ∷ []) _ (λ is. (refl, tt)) wf (λ is. ch) fi gl
       (good_entered w well (place u it.token) _ _ _ _ three.0) in
       (good_left w well true (true ∷ []) _ four.0, (three.1.1, (three.1.0, (one.1, (two.1, four.1 refl)))))
 
@@ -123,11 +126,14 @@ module _ (w : World) (well : AreWell w.names.declared) (uses : UsesDiffer w.name
       AreSpecWords all ws → IsDeclr all d → All (IsDeclaration all) ds → AreBlockItems all items →
       AreChosen w (old_declr_selections u w.names ds d) → AreChosen w (block_items_selections u w.names items) →
       AreFound w (words_starts (loud w None) ws) → AreFound w (old_declr_starts (loud w None) (of_function f) ds d) →
-      AreFound w (block_items_starts (loud w f) items) → AreFound w (name_start (loud w None) (named_or (declared_name d))) →
+      AreFound w (block_items_starts (loud w f) items)
+      → AreFound w (name_start (loud w None) (named_or (declared_name d))) →
       Grows (old_function_by u o ws d ds items s) w.names → G s →
       G (old_function_by u o ws d ds items s)
-      × (NamedHas U o × (NamedHas V o × (WordsHave U V W ws × (OldDeclrHas P U V W ds d × BlockItemsHave P U V W items))))
-  old_function_ok ws d ds items f None s e some wfw wfd wfs wfi chd chi fw fd fi fn g h = absurd (never (sym e ∙ some.1))
+      × (NamedHas U o
+      × (NamedHas V o × (WordsHave U V W ws × (OldDeclrHas P U V W ds d × BlockItemsHave P U V W items))))
+  old_function_ok ws d ds items f None s e some wfw wfd wfs wfi chd chi fw fd fi fn g h =
+      absurd (never (sym e ∙ some.1))
     where
       never : None ≡ Some some.0 → ⊥
       never e = absurd cc
@@ -143,7 +149,8 @@ module _ (w : World) (well : AreWell w.names.declared) (uses : UsesDiffer w.name
       let three = thing_good w well false None true [] (said_words ws) it.token (u.key it.name) _ _ gt
       (subst (λ (o : Option Named). AreFound w (name_start (loud w None) (named_or o))) e fn)
       (good_sized w well (true ∷ []) (place u it.token) _ _ two.0) in
-      let four = block_items_ok w well uses clean all f false false items (true ∷ []) _ (λ is. (refl, tt)) wfi (λ is. chi) fi gl
+      let four =
+      block_items_ok w well uses clean all f false false items (true ∷ []) _ (λ is. (refl, tt)) wfi (λ is. chi) fi gl
       (good_entered w well (place u it.token) _ _ _ _ three.0) in
       (good_left w well true (true ∷ []) _ four.0, (three.1.1, (three.1.0, (one.1, (two.1, four.1 refl)))))
 
@@ -153,7 +160,7 @@ module _ (w : World) (well : AreWell w.names.declared) (uses : UsesDiffer w.name
   item_ok (function_item exts ws d attrs opening items closing) s wf ch found g h =
       let f = declared_function u w.names (declared_name d) in
       let behind = back w (words_starts (loud w None) ws) _ found in
-      function_ok ws d items f (declared_name d) s refl (named_round d false wf.5) wf.7
+      function_ok ws d items f (declared_name d) s refl (round_name d false wf.5) wf.7
       (front w (words_starts (loud w None) ws) _ found)
       (front w (declr_starts (loud w None) with_skeleton (of_function f) d) _ behind)
       (last_chosen w (declr_selections u w.names d) _ (last_chosen w (words_selections u w.names ws) _ ch)) wf.4 wf.1
@@ -163,12 +170,12 @@ module _ (w : World) (well : AreWell w.names.declared) (uses : UsesDiffer w.name
       let behind = back w (words_starts (loud w None) ws) _ found in
       let those = last_chosen w (words_selections u w.names ws) _ ch in
       let fd = front w (old_declr_starts (loud w None) (of_function f) ds d) _ behind in
-      old_function_ok ws d ds items f (declared_name d) s refl (old_named all d wf.4 wf.5) wf.1 wf.4 wf.7 wf.8
+      old_function_ok ws d ds items f (declared_name d) s refl (listing_name all d wf.4 wf.5) wf.1 wf.4 wf.7 wf.8
       (first_chosen w (old_declr_selections u w.names ds d) _ those)
       (last_chosen w (old_declr_selections u w.names ds d) _ those)
       (front w (words_starts (loud w None) ws) _ found) fd
       (back w (old_declr_starts (loud w None) (of_function f) ds d) _ behind)
-      (old_name_found f ds d (old_named all d wf.4 wf.5) wf.4 wf.5 fd) g h
+      (old_name_found f ds d (listing_name all d wf.4 wf.5) wf.4 wf.5 fd) g h
   item_ok (decl_item d) s wf ch found g h =
       let one = decl_ok w well uses clean all None false false d [] s (λ is. tt) wf (λ is. ch) found g h in
       (one.0, one.1 refl)
@@ -176,21 +183,24 @@ module _ (w : World) (well : AreWell w.names.declared) (uses : UsesDiffer w.name
   item_ok (semi_item semi) s wf ch found g h = (h, tt)
 
   pub items_ok : (items : List Item) (s : Names) → All (IsItem all) items →
-      AreChosen w (items_selections u w.names items) → AreFound w (items_starts (has_access w.lattices) u w.names items) →
+      AreChosen w (items_selections u w.names items)
+      → AreFound w (items_starts (has_access w.lattices) u w.names items) →
       Grows (items_named u items s) w.names → G s → G (items_named u items s) × ItemsHave P U V W items
   items_ok [] s wf ch found g h = (h, tt)
   items_ok (item ∷ items) s wf ch found g h =
       let one = item_ok item s (All-head (IsItem all) item items wf)
-      (first_chosen w (item_selections u w.names item) _ ch) (front w (item_starts (has_access w.lattices) u w.names item) _ found)
+      (first_chosen w (item_selections u w.names item) _ ch)
+      (front w (item_starts (has_access w.lattices) u w.names item) _ found)
       (joins (items_grow u items _) g) h in
-      let two = items_ok items _ (All-tail (IsItem all) item items wf)
-      (last_chosen w (item_selections u w.names item) _ ch) (back w (item_starts (has_access w.lattices) u w.names item) _ found) g
-      one.0 in
+      let two =
+      items_ok items _ (All-tail (IsItem all) item items wf) (last_chosen w (item_selections u w.names item) _ ch)
+      (back w (item_starts (has_access w.lattices) u w.names item) _ found) g one.0 in
       (two.0, (one.1, two.1))
 
 sources_grow : (sources : List Source) (s : Names) → Grows s (sources_named sources s)
 sources_grow [] s = stays s
-sources_grow (it ∷ sources) s = joins (unit_grows it.spelling.unit s) (joins (items_grow it.spelling it.items _) (sources_grow sources _))
+sources_grow (it ∷ sources) s =
+    joins (unit_grows it.spelling.unit s) (joins (items_grow it.spelling it.items _) (sources_grow sources _))
 
 module _ (p : Program) (formed : AreFormed p.sources) (no_fault : HasNoFault p.sources)
     (places : PlacesDiffer p.sources) (firsts : FirstsHaveSkeletons (names_of p.sources).declared) where
@@ -221,7 +231,8 @@ module _ (p : Program) (formed : AreFormed p.sources) (no_fault : HasNoFault p.s
 
   found_of : (xs : List Start) (it : Source) (sources : List Source) →
       starts_of (has_access p.lattices) p.sources
-      ≡ xs ++ (items_starts (has_access p.lattices) it.spelling S it.items ++ starts_among (has_access p.lattices) S sources) →
+      ≡ xs ++ (items_starts (has_access p.lattices) it.spelling S it.items
+      ++ starts_among (has_access p.lattices) S sources) →
       AreFound (world_of p it) (items_starts (has_access p.lattices) it.spelling S it.items)
   found_of xs it sources e = all_found (world_of p it) (starts_of (has_access p.lattices) p.sources) refl refl
       (places.starts (has_access p.lattices)) xs
@@ -230,14 +241,16 @@ module _ (p : Program) (formed : AreFormed p.sources) (no_fault : HasNoFault p.s
   chosen_of : (xs : List Selection) (it : Source) (sources : List Source) →
       selections_among S p.sources ≡ xs ++ (items_selections it.spelling S it.items ++ selections_among S sources) →
       AreChosen (world_of p it) (items_selections it.spelling S it.items)
-  chosen_of xs it sources e = all_chosen (world_of p it) (selections_among S p.sources) (λ at n. refl) places.selections xs
+  chosen_of xs it sources e =
+      all_chosen (world_of p it) (selections_among S p.sources) (λ at n. refl) places.selections xs
       (items_selections it.spelling S it.items) (selections_among S sources) e
 
   -- each unit's items, and good names behind all
   abbrev EachHas : List Source → Type 0
   EachHas [] = Unit {0}
   EachHas (it ∷ sources) =
-      ItemsHave (IsSettled (world_of p it)) (TokenBegins (world_of p it)) (FirstIsMet (world_of p it)) (RoleHasSkeleton (world_of p it)) it.items
+      ItemsHave (IsSettled (world_of p it)) (TokenBegins (world_of p it)) (FirstIsMet (world_of p it))
+      (RoleHasSkeleton (world_of p it)) it.items
       × EachHas sources
 
   run : (sources : List Source) (last : Source) (xs : List Start) (ys : List Selection) (s : Names)
@@ -262,7 +275,8 @@ module _ (p : Program) (formed : AreFormed p.sources) (no_fault : HasNoFault p.s
       (two.0, (one.1, two.1))
 
   settle : (last : Source) (sources : List Source) (xs : List Start) →
-      starts_of (has_access p.lattices) p.sources ≡ xs ++ starts_among (has_access p.lattices) S sources → judged sources S ≡ [] → EachHas sources → GoodFor last S →
+      starts_of (has_access p.lattices) p.sources ≡ xs ++ starts_among (has_access p.lattices) S sources
+      → judged sources S ≡ [] → EachHas sources → GoodFor last S →
       EachSettled p sources
   settle last [] xs e none has h = tt
   settle last (it ∷ sources) xs e none has h = (
@@ -283,9 +297,8 @@ module _ (p : Program) (formed : AreFormed p.sources) (no_fault : HasNoFault p.s
   whole [] e = subst (EachSettled p) (sym e) tt
   whole (it ∷ sources) e =
       let done = run p.sources it [] [] no_names formed refl refl refl (good_none (world_of p it) well) in
-      settle it p.sources [] refl
-      (last_none (body_faults S) (judged p.sources S) (last_none S.faults (body_faults S ++ judged p.sources S) no_fault))
-      done.1 done.0
+      settle it p.sources [] refl (last_none (body_faults S) (judged p.sources S)
+      (last_none S.faults (body_faults S ++ judged p.sources S) no_fault)) done.1 done.0
 
 pub programs_are_settled : (p : Program) → IsAccepted p → EachSettled p p.sources
 programs_are_settled p h = whole p h.0 h.1 h.2 h.3 p.sources refl
@@ -296,7 +309,8 @@ each_has p [] h = tt
 each_has p (it ∷ sources) h =
     let w = world_of p it in (
       items_have w h.0.members it.items h.0.settled
-          (items_typed_of w (TokenBegins w) (FirstIsMet w) (RoleHasSkeleton w) it.items h.0.settled h.0.clean) h.0.starts,
+          (items_typed_of w (TokenBegins w) (FirstIsMet w)
+          (RoleHasSkeleton w) it.items h.0.settled h.0.clean) h.0.starts,
       each_has p sources h.1,
     )
 
@@ -309,7 +323,8 @@ each_misses p [] h = tt
 each_misses p (it ∷ sources) h =
     let w = world_of p it in (
       missing_nothing w it.items h.0.members h.0.links h.0.settled
-          (items_typed_of w (TokenBegins w) (FirstIsMet w) (RoleHasSkeleton w) it.items h.0.settled h.0.clean) h.0.starts,
+          (items_typed_of w (TokenBegins w) (FirstIsMet w)
+          (RoleHasSkeleton w) it.items h.0.settled h.0.clean) h.0.starts,
       each_misses p sources h.1,
     )
 

@@ -1,6 +1,7 @@
 -- What operators make of operands whose skeletons are those of their types.
 use Rattle.std.proofs.Common.{◌≡◌, ℕ, ◌+◌, Bool, true, false, [], Option, None, Some, refl, ap, subst, ◌∙◌}
 use Rattle.std.specs.Prelude.{◌&&◌, ◌||◌, not, if◌then◌else◌}
+use Rattle.std.proofs.lemmas.Bool.{not-true, and_right}
 use Rattle.c_words.specs.declared.kinds.Punct.{Punct}
 use Rattle.type_table.specs.Types.{CType, base, void, struct, pointer, function}
 use Rattle.qual_types.specs.Skel.{Skel, numbered, within}
@@ -26,10 +27,6 @@ chosen_where b c x y z e h = rw e h
 sum_where : (b c d e : Bool) (x y o z : Skel) → b ≡ c → d ≡ e → sum_of c e x y o ≡ z → sum_of b d x y o ≡ z
 sum_where b c d e x y o z is it h = rw is rw it h
 
-not_true : (b : Bool) → not b ≡ true → b ≡ false
-not_true true h = absurd cc
-not_true false h = refl
-
 -- where one of two skeletons is a reference, they are not both none
 one_is_ref : (x y : Skel) → is_ref (if is_ref x then x else y) ≡ true → (not (is_ref x) && not (is_ref y)) ≡ false
 one_is_ref x y h = by (is_ref x) h
@@ -37,10 +34,6 @@ one_is_ref x y h = by (is_ref x) h
     by : (b : Bool) → is_ref (if b then x else y) ≡ true → (not b && not (is_ref y)) ≡ false
     by true h = refl
     by false h = ap not h
-
-no_vector_where : (wide c : Bool) → c ≡ false → (wide && c) ≡ false
-no_vector_where true c e = e
-no_vector_where false c e = refl
 
 -- where wider C has an index into a vector, neither operand of it is a reference
 vector_where : (wide numbers last r r2 : Bool) → (wide && (numbers && last)) ≡ true → (numbers ≡ true → r ≡ false) →
@@ -163,8 +156,11 @@ module _ {K : Type 0} where
 
       right : (u : CType) → IsOf u x → is_pointer u ≡ false → some_target b ≡ Some t →
           IsOf (pointer [] t) (λ k. if is_ref (x k) then x k else y k)
-      right u one e h = let two = target_reads b y l t h in
-          (two.0, λ k. chosen_where (is_ref (x k)) false (x k) (y k) (numbered (pointer [] t) two.0) (at_left u one.0 k (one.1 k) ∙ e) (two.1 k))
+      right u one e h = let two = target_reads b y l t h in (
+        two.0,
+        λ k. chosen_where (is_ref (x k)) false (x k) (y k) (numbered (pointer [] t) two.0)
+            (at_left u one.0 k (one.1 k) ∙ e) (two.1 k),
+      )
 
       by : (u : CType) → IsOf u x → (if is_pointer u then target u else some_target b) ≡ Some t →
           IsOf (pointer [] t) (λ k. if is_ref (x k) then x k else y k)
@@ -193,7 +189,7 @@ module _ {K : Type 0} where
   other_no_ref : (o : Option CType) (x : K → Skel) → Reads o x → is_no_pointer o ≡ true → (k : K) → is_ref (x k) ≡ false
   other_no_ref None x g e k = absurd cc
   other_no_ref (Some u) x g e k =
-      let one = g u refl in ap is_ref (one.1 k) ∙ (ref_where u one.0 ∙ not_true (is_pointer u) e)
+      let one = g u refl in ap is_ref (one.1 k) ∙ (ref_where u one.0 ∙ not-true (is_pointer u) e)
 
   pub index_agrees : (wide : Bool) (s s2 : Shape) (v v2 : K → Val) → Agrees s v → Agrees s2 v2 →
       Agrees (index_shape wide s s2) (λ k. index_of wide (v k) (v2 k))
@@ -209,7 +205,8 @@ module _ {K : Type 0} where
       place : (t : CType) (n : ℕ) (k : K) →
           (if is_ref (value (v k)) then value (v k) else value (v2 k)) ≡ numbered (pointer [] t) n →
           (wide && (not (is_ref (value (v k))) && not (is_ref (value (v2 k))))) ≡ false
-      place t n k e = no_vector_where wide _ (one_is_ref (value (v k)) (value (v2 k)) (ap is_ref e ∙ ref_where (pointer [] t) n))
+      place t n k e =
+          and_right wide _ (one_is_ref (value (v k)) (value (v2 k)) (ap is_ref e ∙ ref_where (pointer [] t) n))
 
       by : (b : Bool) → is_vector_index wide s s2 ≡ b →
           Agrees (if b then s else shapes.a_place (index_type (shapes.value s) (shapes.value s2)))
@@ -224,7 +221,8 @@ module _ {K : Type 0} where
           (value_reads s v g) (value_reads s2 v2 l) t h in (
             one.0,
             λ k.
-                ap (λ (b : Bool). if b then v k else a_place (if is_ref (value (v k)) then value (v k) else value (v2 k)))
+                ap (λ (b : Bool). if b then v k
+                else a_place (if is_ref (value (v k)) then value (v k) else value (v2 k)))
                 (place t one.0 k (one.1 k)) ∙ ap a_place (one.1 k),
           )
 
@@ -261,17 +259,20 @@ module _ {K : Type 0} where
       by true false is it f h = same_type u t summed h (
         one.0,
         λ k.
-            sum_where (is_ref (x k)) true (is_ref (y k)) false (x k) (y k) (o k) (numbered u one.0) (is k) (it k) (one.1 k),
+            sum_where (is_ref (x k)) true (is_ref (y k)) false (x k) (y k) (o k) (numbered u one.0) (is k)
+            (it k) (one.1 k),
       )
       by false true is it f h = same_type v t summed h (
         two.0,
         λ k.
-            sum_where (is_ref (x k)) false (is_ref (y k)) true (x k) (y k) (o k) (numbered v two.0) (is k) (it k) (two.1 k),
+            sum_where (is_ref (x k)) false (is_ref (y k)) true (x k) (y k) (o k) (numbered v two.0) (is k)
+            (it k) (two.1 k),
       )
       by false false is it f h = let own = f refl in same_type (base []) t summed h (
         own.0,
         λ k.
-            sum_where (is_ref (x k)) false (is_ref (y k)) false (x k) (y k) (o k) (numbered (base []) own.0) (is k) (it k)
+            sum_where (is_ref (x k)) false (is_ref (y k)) false (x k) (y k) (o k)
+            (numbered (base []) own.0) (is k) (it k)
             (own.1 k),
       )
 

@@ -103,7 +103,8 @@ module _ (w : World) (members : MembersBegin w) (k l : Further) where
 
   mutual
     parts_same : (ways : Ways) (where_ : Span) (s : Skel) →
-        formed_in ways wk.skeletons w.names.aggregates where_ s ≡ formed_in ways wl.skeletons w.names.aggregates where_ s
+        formed_in ways wk.skeletons w.names.aggregates where_ s
+        ≡ formed_in ways wl.skeletons w.names.aggregates where_ s
     parts_same ways where_ (flat v kind) = fields_same ways where_ v kind
     parts_same ways where_ (ref v s) = joined _ _ _ _ refl (parts_same ways where_ s)
     parts_same ways where_ (fun v ps r e) = joined _ _ _ _ (all_same ways where_ ps) (parts_same ways where_ r)

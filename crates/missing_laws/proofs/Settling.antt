@@ -1,6 +1,7 @@
 -- Along a tree names stay good, and where its constraints count each expression is settled.
 use Rattle.std.specs.Prelude.{◌&&◌, if◌then◌else◌}
 use Rattle.std.proofs.Common.{◌≡◌, ℕ, suc, Bool, true, false, List, [], ◌∷◌, ◌++◌, Option, None, Some, refl, sym, ap, subst, ◌∙◌, append_assoc}
+use Rattle.std.proofs.lemmas.Option.{same_Some}
 use Rattle.c_words.specs.declared.kinds.Keyword.{Keyword}
 use Rattle.c_syntax.specs.declared.parts.Identifier.{Identifier}
 use Rattle.tape_ops.specs.declared.specifier.TagKind.{TagKind}
@@ -14,6 +15,7 @@ use Rattle.type_rules.specs.Tokens.{first_word, declared_name, some_declared_nam
 use Rattle.type_rules.specs.Naming.{tag_kind, tag_named, body_begun, unnamed_by, unnamed_among, is_tag_alone, said_words, has_untagged, words_behind, expr_named, some_expr_named, exprs_named, words_named, word_named, struct_named, struct_items_named, struct_item_named, unnamed_where, mem_declrs_named, mem_declr_named, some_value_named, enum_named, enumerators_named, declr_named, some_declr_named, some_size_named, params_named, init_named, init_list_named, init_items_named, desigs_named, some_init_named, init_declrs_named, declaration_named, decl_named, block_items_named, block_item_named, stmt_named, some_else_named, for_start_named, assoc_named, assocs_named, auto_declrs_named, typed_by, with_typed, with_pieced}
 use Rattle.c_tree.specs.declared.lexeme.Lexeme.{Lexeme}
 use Rattle.c_tree.specs.WellFormed.{IsExpr, IsSomeExpr, AreArguments, IsInit, IsInitList, AreInitItems, IsSomeInit, AreInitDeclrs, IsDeclaration, IsDecl, AreBlockItems, IsBlockItem, IsStmt, IsOther, IsStart, AreAssocs, AreEnumerators, AreMemDeclrs, AreParams, AreSpecWords, AreStructItems, IsAssoc, IsBody, IsDeclr, IsEnum, IsMemDeclr, IsSize, IsSomeDeclr, IsSomeValue, IsSpecWord, IsStructItem, has_auto, AreTypeWords, IsSomeAbstract}
+use Rattle.c_tree.proofs.Weaker.{type_words_are, abstract_is, direct_is}
 use Rattle.type_table.specs.Types.{pointer}
 use Rattle.name_rules.specs.Faults.{undeclared, fault_where}
 use Rattle.name_rules.specs.Scopes.{Declared, Meaning, NameUse, Role, TypeNamed, Use, called, declared_at, means, means_thing, means_type}
@@ -27,7 +29,7 @@ use Rattle.missing_laws.specs.Everywhere.{UnnamedHas, UnnamedHave, WordsHave, Wo
 use Rattle.missing_laws.specs.Finding.{AreFound, FirstIsMet, IsSettled, NameBegins, RoleHasSkeleton, TokenBegins, TypeIsKnown, UseBegins, UseIsKnown}
 use Rattle.constraint_rules.specs.Selections.{assoc_selections, assocs_selections, block_item_selections, block_items_selections, decl_selections, declaration_selections, declr_selections, desigs_selections, expr_selections, exprs_selections, for_start_selections, init_declrs_selections, init_items_selections, init_list_selections, init_selections, some_declr_selections, some_else_selections, some_expr_selections, some_init_selections, stmt_selections, words_selections}
 use Rattle.missing_laws.proofs.Chosen.{AreChosen, first_chosen, last_chosen}
-use Rattle.missing_laws.proofs.Forms.{IndicesAre, as_words, desigs_are, direct_declared, some_declared, steps_are}
+use Rattle.missing_laws.proofs.Forms.{IndicesAre, desigs_are, steps_are}
 use Rattle.name_rules.specs.Pieces.{applied, with_words}
 use Rattle.name_rules.specs.Values.{value}
 use Rattle.type_rules.specs.Shapes.{shape_of}
@@ -104,7 +106,8 @@ module _ (w : World) (well : AreWell w.names.declared) (uses_differ : UsesDiffer
       let entry : TypeNamed = record { at = place u (first_word ws); type = t } in
       let whole : S.type_names ≡ s.type_names ++ entry ∷ g.types.0 =
       g.types.1 ∙ append_assoc s.type_names (entry ∷ []) g.types.0 in
-      subst (λ (types : List TypeNamed). (t : CType) × (type_named_at types (place u (first_word ws)) ≡ Some t)) (sym whole)
+      subst (λ (types : List TypeNamed). (t : CType)
+      × (type_named_at types (place u (first_word ws)) ≡ Some t)) (sym whole)
       (type_there s.type_names g.types.0 entry)
 
   -- names
@@ -120,9 +123,6 @@ module _ (w : World) (well : AreWell w.names.declared) (uses_differ : UsesDiffer
   same_place : (p q : Place) → means p ≡ means q → p ≡ q
   same_place p q e = cc
 
-  same_declared : (c d : Declared) → Some c ≡ Some d → c ≡ d
-  same_declared c d e = cc
-
   meant_use : (token : ℕ) (p : Place) → use_at S.uses (at w token) ≡ means p → Meant w well p →
       UseIsKnown w token × UseBegins w token
   meant_use token p there h = (
@@ -131,7 +131,7 @@ module _ (w : World) (well : AreWell w.names.declared) (uses_differ : UsesDiffer
         (shape_is_known h.0 h.0.role)),
     λ q d e f.
         let same : p ≡ q = same_place p q (sym there ∙ e) in
-        let found : h.0 ≡ d = same_declared h.0 d
+        let found : h.0 ≡ d = same_Some h.0 d
         (sym h.1 ∙ (ap (λ (r : Place). declared_at S.declared r) same ∙ f)) in
         subst (λ (it : Declared). NameBegins w it it.role) found h.2,
   )
@@ -174,7 +174,8 @@ module _ (w : World) (well : AreWell w.names.declared) (uses_differ : UsesDiffer
 
   -- tags
 
-  tag_good : (b : Bool) (bs : List Bool) (alone : Bool) (kind : TagKind) (tag : Option Identifier) (t : CType) (s : Names) →
+  tag_good : (b : Bool) (bs : List Bool) (alone : Bool) (kind : TagKind) (tag : Option Identifier)
+      (t : CType) (s : Names) →
       G (b ∷ bs) s → G (b ∷ bs) (tag_named u alone kind tag t s).names
   tag_good b bs alone kind None t s h = h
   tag_good b bs alone kind (Some tag) t s h = good_found w well b bs _ u kind tag.token tag.name s h
@@ -225,7 +226,8 @@ module _ (w : World) (well : AreWell w.names.declared) (uses_differ : UsesDiffer
     all_unnamed q bs (more_words word ws) n t s g found h =
         let one = unnamed_is q bs word n t s (joins (unnamed_among_grows u ws n t (unnamed_by u word n t s)) g)
         (front w (unnamed_start (a q) word) _ found) h in
-        let rest = all_unnamed q bs ws n t (unnamed_by u word n t s) g (back w (unnamed_start (a q) word) _ found) one.0 in
+        let rest =
+        all_unnamed q bs ws n t (unnamed_by u word n t s) g (back w (unnamed_start (a q) word) _ found) one.0 in
         (rest.0, (one.1, rest.1))
 
     -- a name that has the type of its initialiser is declared behind that
@@ -268,46 +270,62 @@ module _ (w : World) (well : AreWell w.names.declared) (uses_differ : UsesDiffer
 
     mutual
       pub expr_ok : (q r c : Bool) (e : Expr) (b : Bool) (bs : List Bool) (s : Names) → Loud r (b ∷ bs) →
-          IsExpr all e → (r ≡ false → AreChosen w (expr_selections u S e)) → AreFound w (expr_starts (a q) e) → Grows (expr_named u c e s) S → G (b ∷ bs) s →
+          IsExpr all e → (r ≡ false → AreChosen w (expr_selections u S e)) → AreFound w (expr_starts (a q) e)
+          → Grows (expr_named u c e s) S → G (b ∷ bs) s →
           G (b ∷ bs) (expr_named u c e s) × (r ≡ false → ExprHas P U V W e)
       expr_ok q r c (operation e comma token e2) b bs s l wf ch found g h =
-          let one = expr_ok q r false e b bs s l wf.0 (chf (expr_selections u S e) _ ch) (front w (expr_starts (a q) e) _ found)
+          let one =
+          expr_ok q r false e b bs s l wf.0 (chf (expr_selections u S e) _ ch) (front w (expr_starts (a q) e) _ found)
           (joins (expr_grows u false e2 _) g) h in
-          let two = expr_ok q r false e2 b bs _ l wf.1 (chb (expr_selections u S e) _ ch) (back w (expr_starts (a q) e) _ found) g one.0 in
+          let two = expr_ok q r false e2 b bs _ l wf.1 (chb (expr_selections u S e) _ ch)
+          (back w (expr_starts (a q) e) _ found) g one.0 in
           (two.0, λ is. (tt, (one.1 is, (tt, two.1 is))))
       expr_ok q r c (operation e (assign p) token e2) b bs s l wf ch found g h =
-          let one = expr_ok q r false e b bs s l wf.0 (chf (expr_selections u S e) _ ch) (front w (expr_starts (a q) e) _ found)
+          let one =
+          expr_ok q r false e b bs s l wf.0 (chf (expr_selections u S e) _ ch) (front w (expr_starts (a q) e) _ found)
           (joins (expr_grows u false e2 _) g) h in
-          let two = expr_ok q r false e2 b bs _ l wf.1 (chb (expr_selections u S e) _ ch) (back w (expr_starts (a q) e) _ found) g one.0 in
+          let two = expr_ok q r false e2 b bs _ l wf.1 (chb (expr_selections u S e) _ ch)
+          (back w (expr_starts (a q) e) _ found) g one.0 in
           (two.0, λ is. (tt, (one.1 is, (tt, two.1 is))))
       expr_ok q r c (operation e (cond no_expr colon) token e2) b bs s l wf ch found g h =
           let behind = back w (expr_starts (a q) e) _ found in
-          let one = expr_ok q r false e b bs s l wf.0 (chf (expr_selections u S e) _ ch) (front w (expr_starts (a q) e) _ found)
+          let one =
+          expr_ok q r false e b bs s l wf.0 (chf (expr_selections u S e) _ ch) (front w (expr_starts (a q) e) _ found)
           (joins (expr_grows u false e2 _) g) h in
-          let two = expr_ok q r false e2 b bs _ l wf.1 (chb (expr_selections u S e) _ ch) (front w (expr_starts (a q) e2) _ behind) g one.0 in
+          let two = expr_ok q r false e2 b bs _ l wf.1 (chb (expr_selections u S e) _ ch)
+          (front w (expr_starts (a q) e2) _ behind) g one.0 in
           (two.0, λ is. (tt, (one.1 is, (tt, two.1 is))))
       expr_ok q r c (operation e (cond (some_expr m) colon) token e2) b bs s l wf ch found g h =
           let behind = back w (expr_starts (a q) e) _ found in
           let last = back w (expr_starts (a q) m) _ behind in
           let gm = joins (expr_grows u false e2 _) g in
-          let one = expr_ok q r false e b bs s l wf.0 (chf (expr_selections u S e) _ ch) (front w (expr_starts (a q) e) _ found)
+          let one =
+          expr_ok q r false e b bs s l wf.0 (chf (expr_selections u S e) _ ch) (front w (expr_starts (a q) e) _ found)
           (joins (expr_grows u false m _) gm) h in
-          let mid = expr_ok q r false m b bs _ l wf.3 (chf (expr_selections u S m) _ (chb (expr_selections u S e) _ ch)) (front w (expr_starts (a q) m) _ behind) gm one.0 in
-          let two = expr_ok q r false e2 b bs _ l wf.1 (chb (expr_selections u S m) _ (chb (expr_selections u S e) _ ch)) (front w (expr_starts (a q) e2) _ last) g mid.0 in
+          let mid = expr_ok q r false m b bs _ l wf.3 (chf (expr_selections u S m) _ (chb (expr_selections u S e) _ ch))
+          (front w (expr_starts (a q) m) _ behind) gm one.0 in
+          let two =
+          expr_ok q r false e2 b bs _ l wf.1 (chb (expr_selections u S m) _ (chb (expr_selections u S e) _ ch))
+          (front w (expr_starts (a q) e2) _ last) g mid.0 in
           (two.0, λ is. (tt, (one.1 is, (mid.1 is, two.1 is))))
       expr_ok q r c (operation e (binary p) token e2) b bs s l wf ch found g h =
           let behind = back w (expr_starts (a q) e) _ found in
-          let one = expr_ok q r false e b bs s l wf.0 (chf (expr_selections u S e) _ ch) (front w (expr_starts (a q) e) _ found)
+          let one =
+          expr_ok q r false e b bs s l wf.0 (chf (expr_selections u S e) _ ch) (front w (expr_starts (a q) e) _ found)
           (joins (expr_grows u false e2 _) g) h in
-          let two = expr_ok q r false e2 b bs _ l wf.1 (chb (expr_selections u S e) _ ch) (front w (expr_starts (a q) e2) _ behind) g one.0 in
+          let two = expr_ok q r false e2 b bs _ l wf.1 (chb (expr_selections u S e) _ ch)
+          (front w (expr_starts (a q) e2) _ behind) g one.0 in
           (two.0, λ is. (tt, (one.1 is, (tt, two.1 is))))
       expr_ok q r c (cast opening ws d closing e) b bs s l wf ch found g h =
           let hd = back w (words_starts (a q) ws) _ found in
           let n : Names = type_name_named ws d s in
           let one = type_by ws d b bs s
-          (λ gx. words_ok q false ws (base []) [] b bs s (as_words all ws wf.1) (front w (words_starts (a q) ws) _ found) gx h)
-          (λ gx hx. some_declr_ok q with_skeleton d b bs _ (some_declared all d wf.2) (front w (some_declr_starts (a q) with_skeleton d) _ hd) gx hx) (joins (expr_grows u false e n) g) in
-          let two = expr_ok q r false e b bs n l wf.3 (chb (some_declr_selections u S d) _ (chb (words_selections u S ws) _ ch))
+          (λ gx. words_ok q false ws (base []) [] b bs s (type_words_are all ws wf.1)
+          (front w (words_starts (a q) ws) _ found) gx h)
+          (λ gx hx. some_declr_ok q with_skeleton d b bs _ (abstract_is all d wf.2)
+          (front w (some_declr_starts (a q) with_skeleton d) _ hd) gx hx) (joins (expr_grows u false e n) g) in
+          let two =
+          expr_ok q r false e b bs n l wf.3 (chb (some_declr_selections u S d) _ (chb (words_selections u S ws) _ ch))
           (front w (expr_starts (a q) e) _ (back w (some_declr_starts (a q) with_skeleton d) _ hd)) g one.0 in
           (two.0, λ is. ((one.1.1.1, some_nameless all d wf.2), (one.1.0, (one.1.1.0, two.1 is))))
       expr_ok q r c (prefix token p e) b bs s l wf ch found g h =
@@ -320,20 +338,26 @@ module _ (w : World) (well : AreWell w.names.declared) (uses_differ : UsesDiffer
       expr_ok q r c (sizeof_type word opening ws d closing) b bs s l wf ch found g h =
           let hd = back w (words_starts (a true) ws) _ found in
           let one = type_by ws d b bs s
-          (λ gx. words_ok true false ws (base []) [] b bs s (as_words all ws wf.1) (front w (words_starts (a true) ws) _ found) gx h)
-          (λ gx hx. some_declr_ok true with_skeleton d b bs _ (some_declared all d wf.2) (front w (some_declr_starts (a true) with_skeleton d) _ hd) gx hx) g in
+          (λ gx. words_ok true false ws (base []) [] b bs s (type_words_are all ws wf.1)
+          (front w (words_starts (a true) ws) _ found) gx h)
+          (λ gx hx. some_declr_ok true with_skeleton d b bs _ (abstract_is all d wf.2)
+          (front w (some_declr_starts (a true) with_skeleton d) _ hd) gx hx) g in
           (one.0, λ is. tt)
       expr_ok q r c (extension keyword e) b bs s l wf ch found g h =
           let one = expr_ok q r false e b bs s l wf.0 ch found g h in (one.0, λ is. (tt, one.1 is))
       expr_ok q r c (index e opening e2 closing) b bs s l wf ch found g h =
-          let one = expr_ok q r false e b bs s l wf.0 (chf (expr_selections u S e) _ ch) (front w (expr_starts (a q) e) _ found)
+          let one =
+          expr_ok q r false e b bs s l wf.0 (chf (expr_selections u S e) _ ch) (front w (expr_starts (a q) e) _ found)
           (joins (expr_grows u false e2 _) g) h in
-          let two = expr_ok q r false e2 b bs _ l wf.1 (chb (expr_selections u S e) _ ch) (back w (expr_starts (a q) e) _ found) g one.0 in
+          let two = expr_ok q r false e2 b bs _ l wf.1 (chb (expr_selections u S e) _ ch)
+          (back w (expr_starts (a q) e) _ found) g one.0 in
           (two.0, λ is. (tt, (one.1 is, two.1 is)))
       expr_ok q r c (call e opening es closing) b bs s l wf ch found g h =
-          let one = expr_ok q r true e b bs s l wf.0 (chf (expr_selections u S e) _ ch) (front w (expr_starts (a q) e) _ found)
+          let one =
+          expr_ok q r true e b bs s l wf.0 (chf (expr_selections u S e) _ ch) (front w (expr_starts (a q) e) _ found)
           (joins (exprs_grow u es _) g) h in
-          let two = exprs_ok q r es b bs _ l wf.1 (chb (expr_selections u S e) _ ch) (back w (expr_starts (a q) e) _ found) g one.0 in
+          let two = exprs_ok q r es b bs _ l wf.1 (chb (expr_selections u S e) _ ch)
+          (back w (expr_starts (a q) e) _ found) g one.0 in
           (two.0, λ is. (tt, (one.1 is, two.1 is)))
       expr_ok q r c (dot e token name) b bs s l wf ch found g h =
           let one = expr_ok q r false e b bs s l wf.0 ch found g h in (one.0, λ is. (tt, one.1 is))
@@ -345,9 +369,12 @@ module _ (w : World) (well : AreWell w.names.declared) (uses_differ : UsesDiffer
           let hd = back w (words_starts (a q) ws) _ found in
           let n : Names = type_name_named ws d s in
           let one = type_by ws d b bs s
-          (λ gx. words_ok q false ws (base []) [] b bs s (as_words all ws wf.1) (front w (words_starts (a q) ws) _ found) gx h)
-          (λ gx hx. some_declr_ok q with_skeleton d b bs _ (some_declared all d wf.2) (front w (some_declr_starts (a q) with_skeleton d) _ hd) gx hx) (joins (init_list_grows u list n) g) in
-          let two = list_ok q r list b bs n l wf.3 (chb (some_declr_selections u S d) _ (chb (words_selections u S ws) _ ch))
+          (λ gx. words_ok q false ws (base []) [] b bs s (type_words_are all ws wf.1)
+          (front w (words_starts (a q) ws) _ found) gx h)
+          (λ gx hx. some_declr_ok q with_skeleton d b bs _ (abstract_is all d wf.2)
+          (front w (some_declr_starts (a q) with_skeleton d) _ hd) gx hx) (joins (init_list_grows u list n) g) in
+          let two =
+          list_ok q r list b bs n l wf.3 (chb (some_declr_selections u S d) _ (chb (words_selections u S ws) _ ch))
           (front w (init_list_starts (a q) list) _ (back w (some_declr_starts (a q) with_skeleton d) _ hd)) g one.0 in
           (two.0, λ is. ((one.1.1.1, some_nameless all d wf.2), (one.1.0, (one.1.1.0, two.1 is))))
       expr_ok q r c (name_use token name) b bs s l wf ch found g h =
@@ -364,20 +391,25 @@ module _ (w : World) (well : AreWell w.names.declared) (uses_differ : UsesDiffer
       expr_ok q r c (va_arg keyword opening e separator ws d closing) b bs s l wf ch found g h =
           let hw = back w (expr_starts (a q) e) _ found in
           let n : Names = expr_named u false e s in
-          let zero = expr_ok q r false e b bs s l wf.0 (chf (expr_selections u S e) _ ch) (front w (expr_starts (a q) e) _ found)
+          let zero =
+          expr_ok q r false e b bs s l wf.0 (chf (expr_selections u S e) _ ch) (front w (expr_starts (a q) e) _ found)
           (joins (type_name_grows ws d n) g) h in
           let one = type_by ws d b bs n
-          (λ gx. words_ok q false ws (base []) [] b bs n (as_words all ws wf.2) (front w (words_starts (a q) ws) _ hw) gx zero.0)
-          (λ gx hx. some_declr_ok q with_skeleton d b bs _ (some_declared all d wf.3) (front w (some_declr_starts (a q) with_skeleton d) _ (back w (words_starts (a q) ws) _ hw)) gx hx) g in
+          (λ gx. words_ok q false ws (base []) [] b bs n (type_words_are all ws wf.2)
+          (front w (words_starts (a q) ws) _ hw) gx zero.0)
+          (λ gx hx. some_declr_ok q with_skeleton d b bs _ (abstract_is all d wf.3)
+          (front w (some_declr_starts (a q) with_skeleton d) _ (back w (words_starts (a q) ws) _ hw)) gx hx) g in
           (one.0, λ is. ((one.1.1.1, some_nameless all d wf.3), (zero.1 is, (one.1.0, one.1.1.0))))
       expr_ok q r c (va_start keyword opening e separator e2 closing) b bs s l wf ch found g h =
-          let one = expr_ok q r false e b bs s l wf.0 (chf (expr_selections u S e) _ ch) (front w (expr_starts (a q) e) _ found)
+          let one =
+          expr_ok q r false e b bs s l wf.0 (chf (expr_selections u S e) _ ch) (front w (expr_starts (a q) e) _ found)
           (joins (expr_grows u false e2 _) g) h in
           let two = expr_ok q r false e2 b bs _ l wf.1 (chb (expr_selections u S e) _ ch)
           (front w (expr_starts (a q) e2) _ (back w (expr_starts (a q) e) _ found)) g one.0 in
           (two.0, λ is. (tt, (one.1 is, two.1 is)))
       expr_ok q r c (va_copy keyword opening e separator e2 closing) b bs s l wf ch found g h =
-          let one = expr_ok q r false e b bs s l wf.0 (chf (expr_selections u S e) _ ch) (front w (expr_starts (a q) e) _ found)
+          let one =
+          expr_ok q r false e b bs s l wf.0 (chf (expr_selections u S e) _ ch) (front w (expr_starts (a q) e) _ found)
           (joins (expr_grows u false e2 _) g) h in
           let two = expr_ok q r false e2 b bs _ l wf.1 (chb (expr_selections u S e) _ ch)
           (front w (expr_starts (a q) e2) _ (back w (expr_starts (a q) e) _ found)) g one.0 in
@@ -387,9 +419,13 @@ module _ (w : World) (well : AreWell w.names.declared) (uses_differ : UsesDiffer
           let hs = back w (some_declr_starts (a true) with_skeleton d) _ hd in
           let n : Names = type_name_named ws d s in
           let one = type_by ws d b bs s
-          (λ gx. words_ok true false ws (base []) [] b bs s (as_words all ws wf.1) (front w (words_starts (a true) ws) _ found) gx h)
-          (λ gx hx. some_declr_ok true with_skeleton d b bs _ (some_declared all d wf.2) (front w (some_declr_starts (a true) with_skeleton d) _ hd) gx hx) (joins (desigs_grow u steps n) g) in
-          (desigs_ok q steps b bs n (steps_are all steps wf.3) (front w (desigs_starts (a q) steps) _ hs) g one.0, λ is. tt)
+          (λ gx. words_ok true false ws (base []) [] b bs s (type_words_are all ws wf.1)
+          (front w (words_starts (a true) ws) _ found) gx h)
+          (λ gx hx. some_declr_ok true with_skeleton d b bs _ (abstract_is all d wf.2)
+          (front w (some_declr_starts (a true) with_skeleton d) _ hd) gx hx) (joins (desigs_grow u steps n) g) in (
+            desigs_ok q steps b bs n (steps_are all steps wf.3) (front w (desigs_starts (a q) steps) _ hs) g one.0,
+            λ is. tt,
+          )
       expr_ok q r c (complex_part keyword e) b bs s l wf ch found g h =
           let one = expr_ok q r false e b bs s l wf.0 ch found g h in (one.0, λ is. (tt, one.1 is))
       expr_ok q r c (label_use token name) b bs s l wf ch found g h = (h, λ is. tt)
@@ -398,20 +434,26 @@ module _ (w : World) (well : AreWell w.names.declared) (uses_differ : UsesDiffer
           let hw = back w (some_declr_starts (a true) with_skeleton d) _ hd in
           let n : Names = type_name_named ws d s in
           let one = type_by ws d b bs s
-          (λ gx. words_ok true false ws (base []) [] b bs s (as_words all ws wf.1) (front w (words_starts (a true) ws) _ found) gx h)
-          (λ gx hx. some_declr_ok true with_skeleton d b bs _ (some_declared all d wf.2) (front w (some_declr_starts (a true) with_skeleton d) _ hd) gx hx) (joins (type_name_grows ws2 d2 n) g) in
+          (λ gx. words_ok true false ws (base []) [] b bs s (type_words_are all ws wf.1)
+          (front w (words_starts (a true) ws) _ found) gx h)
+          (λ gx hx. some_declr_ok true with_skeleton d b bs _ (abstract_is all d wf.2)
+          (front w (some_declr_starts (a true) with_skeleton d) _ hd) gx hx) (joins (type_name_grows ws2 d2 n) g) in
           let two = type_by ws2 d2 b bs n
-          (λ gx. words_ok true false ws2 (base []) [] b bs n (as_words all ws2 wf.4) (front w (words_starts (a true) ws2) _ hw) gx one.0)
-          (λ gx hx. some_declr_ok true with_skeleton d2 b bs _ (some_declared all d2 wf.5) (front w (some_declr_starts (a true) with_skeleton d2) _ (back w (words_starts (a true) ws2) _ hw)) gx hx) g in
+          (λ gx. words_ok true false ws2 (base []) [] b bs n (type_words_are all ws2 wf.4)
+          (front w (words_starts (a true) ws2) _ hw) gx one.0)
+          (λ gx hx. some_declr_ok true with_skeleton d2 b bs _ (abstract_is all d2 wf.5) (front w
+          (some_declr_starts (a true) with_skeleton d2) _ (back w (words_starts (a true) ws2) _ hw)) gx hx) g in
           (two.0, λ is. tt)
       expr_ok q r c (choose keyword opening e separator e2 separator2 e3 closing) b bs s l wf ch found g h =
           let behind = back w (expr_starts (a true) e) _ found in
           let g2 = joins (expr_grows u false e3 _) g in
           let one = expr_ok true true false e b bs s (λ is. absurd cc) wf.0 (λ is. absurd cc)
           (front w (expr_starts (a true) e) _ found) (joins (expr_grows u false e2 _) g2) h in
-          let two = expr_ok q r false e2 b bs _ l wf.1 (chf (expr_selections u S e2) _ (chb (expr_selections u S e) _ ch))
+          let two =
+          expr_ok q r false e2 b bs _ l wf.1 (chf (expr_selections u S e2) _ (chb (expr_selections u S e) _ ch))
           (front w (expr_starts (a q) e2) _ behind) g2 one.0 in
-          let three = expr_ok q r false e3 b bs _ l wf.2 (chb (expr_selections u S e2) _ (chb (expr_selections u S e) _ ch))
+          let three =
+          expr_ok q r false e3 b bs _ l wf.2 (chb (expr_selections u S e2) _ (chb (expr_selections u S e) _ ch))
           (front w (expr_starts (a q) e3) _ (back w (expr_starts (a q) e2) _ behind)) g two.0 in
           (three.0, λ is. (tt, (two.1 is, three.1 is)))
       expr_ok q r c (generic keyword opening e xs closing) b bs s l wf ch found g h =
@@ -429,15 +471,17 @@ module _ (w : World) (well : AreWell w.names.declared) (uses_differ : UsesDiffer
           )
 
       assocs_ok : (q r : Bool) (xs : Assocs) (b : Bool) (bs : List Bool) (s : Names) → Loud r (b ∷ bs) →
-          AreAssocs all xs → (r ≡ false → AreChosen w (assocs_selections u S xs)) → AreFound w (assocs_starts (a q) xs) →
+          AreAssocs all xs → (r ≡ false → AreChosen w (assocs_selections u S xs))
+          → AreFound w (assocs_starts (a q) xs) →
           Grows (assocs_named u xs s) S → G (b ∷ bs) s →
           G (b ∷ bs) (assocs_named u xs s) × (r ≡ false → AssocsHave P U V W xs)
       assocs_ok q r no_assocs b bs s l wf ch found g h = (h, λ is. tt)
       assocs_ok q r (more_assocs x xs) b bs s l wf ch found g h =
-          let one = assoc_ok q r x b bs s l wf.0 (chf (assoc_selections u S x) _ ch) (front w (assoc_starts (a q) x) _ found)
+          let one =
+          assoc_ok q r x b bs s l wf.0 (chf (assoc_selections u S x) _ ch) (front w (assoc_starts (a q) x) _ found)
           (joins (assocs_grow u xs _) g) h in
-          let two = assocs_ok q r xs b bs _ l wf.1 (chb (assoc_selections u S x) _ ch) (back w (assoc_starts (a q) x) _ found) g
-          one.0 in
+          let two = assocs_ok q r xs b bs _ l wf.1 (chb (assoc_selections u S x) _ ch)
+          (back w (assoc_starts (a q) x) _ found) g one.0 in
           (two.0, λ is. (one.1 is, two.1 is))
 
       assoc_ok : (q r : Bool) (x : Assoc) (b : Bool) (bs : List Bool) (s : Names) → Loud r (b ∷ bs) →
@@ -448,27 +492,35 @@ module _ (w : World) (well : AreWell w.names.declared) (uses_differ : UsesDiffer
           let hd = back w (words_starts (a q) ws) _ found in
           let n : Names = type_name_named ws d s in
           let one = type_by ws d b bs s
-          (λ gx. words_ok q false ws (base []) [] b bs s (as_words all ws wf.1) (front w (words_starts (a q) ws) _ found) gx h)
-          (λ gx hx. some_declr_ok q with_skeleton d b bs _ (some_declared all d wf.2) (front w (some_declr_starts (a q) with_skeleton d) _ hd) gx hx) (joins (expr_grows u false e n) g) in
-          let two = expr_ok q r false e b bs n l wf.3 (chb (some_declr_selections u S d) _ (chb (words_selections u S ws) _ ch))
+          (λ gx. words_ok q false ws (base []) [] b bs s (type_words_are all ws wf.1)
+          (front w (words_starts (a q) ws) _ found) gx h)
+          (λ gx hx. some_declr_ok q with_skeleton d b bs _ (abstract_is all d wf.2)
+          (front w (some_declr_starts (a q) with_skeleton d) _ hd) gx hx) (joins (expr_grows u false e n) g) in
+          let two =
+          expr_ok q r false e b bs n l wf.3 (chb (some_declr_selections u S d) _ (chb (words_selections u S ws) _ ch))
           (back w (some_declr_starts (a q) with_skeleton d) _ hd) g one.0 in
           (two.0, λ is. (one.1.0, ((some_nameless all d wf.2, one.1.1.0), two.1 is)))
-      assoc_ok q r (default_assoc keyword colon e) b bs s l wf ch found g h = expr_ok q r false e b bs s l wf.0 ch found g h
+      assoc_ok q r (default_assoc keyword colon e) b bs s l wf ch found g h =
+          expr_ok q r false e b bs s l wf.0 ch found g h
 
       some_expr_ok : (q r : Bool) (e : SomeExpr) (b : Bool) (bs : List Bool) (s : Names) → Loud r (b ∷ bs) →
-          IsSomeExpr all e → (r ≡ false → AreChosen w (some_expr_selections u S e)) → AreFound w (some_expr_starts (a q) e) → Grows (some_expr_named u e s) S →
+          IsSomeExpr all e → (r ≡ false → AreChosen w (some_expr_selections u S e))
+          → AreFound w (some_expr_starts (a q) e) → Grows (some_expr_named u e s) S →
           G (b ∷ bs) s → G (b ∷ bs) (some_expr_named u e s) × (r ≡ false → SomeExprHas P U V W e)
       some_expr_ok q r no_expr b bs s l wf ch found g h = (h, λ is. tt)
       some_expr_ok q r (some_expr e) b bs s l wf ch found g h = expr_ok q r false e b bs s l wf ch found g h
 
       exprs_ok : (q r : Bool) (es : Exprs) (b : Bool) (bs : List Bool) (s : Names) → Loud r (b ∷ bs) →
-          AreArguments all es → (r ≡ false → AreChosen w (exprs_selections u S es)) → AreFound w (exprs_starts (a q) es) → Grows (exprs_named u es s) S →
+          AreArguments all es → (r ≡ false → AreChosen w (exprs_selections u S es)) → AreFound w (exprs_starts (a q) es)
+          → Grows (exprs_named u es s) S →
           G (b ∷ bs) s → G (b ∷ bs) (exprs_named u es s) × (r ≡ false → ExprsHave P U V W es)
       exprs_ok q r no_exprs b bs s l wf ch found g h = (h, λ is. tt)
       exprs_ok q r (more_exprs e es) b bs s l wf ch found g h =
-          let one = expr_ok q r false e b bs s l wf.0 (chf (expr_selections u S e) _ ch) (front w (expr_starts (a q) e) _ found)
+          let one =
+          expr_ok q r false e b bs s l wf.0 (chf (expr_selections u S e) _ ch) (front w (expr_starts (a q) e) _ found)
           (joins (exprs_grow u es _) g) h in
-          let two = exprs_ok q r es b bs _ l wf.2 (chb (expr_selections u S e) _ ch) (back w (expr_starts (a q) e) _ found) g one.0 in
+          let two = exprs_ok q r es b bs _ l wf.2 (chb (expr_selections u S e) _ ch)
+          (back w (expr_starts (a q) e) _ found) g one.0 in
           (two.0, λ is. (one.1 is, two.1 is))
 
       pub words_ok : (q alone : Bool) (ws : SpecWords) (t : CType) (annotations : Words) (b : Bool) (bs : List Bool)
@@ -484,7 +536,8 @@ module _ (w : World) (well : AreWell w.names.declared) (uses_differ : UsesDiffer
           (two.0, (one.1, two.1))
 
       word_ok : (q alone : Bool) (word : SpecWord) (t : CType) (b : Bool) (bs : List Bool) (s : Names) →
-          IsSpecWord all word → AreFound w (word_starts (a q) word) → Grows (word_named u alone word t s).names S → G (b ∷ bs) s →
+          IsSpecWord all word → AreFound w (word_starts (a q) word) → Grows (word_named u alone word t s).names S
+          → G (b ∷ bs) s →
           G (b ∷ bs) (word_named u alone word t s).names × WordHas U V W word
       word_ok q alone (storage word) t b bs s wf found g h = (h, tt)
       word_ok q alone (thread token) t b bs s wf found g h = (h, tt)
@@ -503,13 +556,16 @@ module _ (w : World) (well : AreWell w.names.declared) (uses_differ : UsesDiffer
           (typed_good (b ∷ bs) closing _ _ one.0, tt)
       word_ok q alone (typeof_type word opening ws d closing) t b bs s wf found g h =
           let one = type_by ws d b bs s
-          (λ gx. words_ok q false ws (base []) [] b bs s (as_words all ws wf.2) (front w (words_starts (a q) ws) _ found) gx h)
-          (λ gx hx. some_declr_ok q with_skeleton d b bs _ (some_declared all d wf.3) (back w (words_starts (a q) ws) _ found) gx hx) g in
+          (λ gx. words_ok q false ws (base []) [] b bs s (type_words_are all ws wf.2)
+          (front w (words_starts (a q) ws) _ found) gx h)
+          (λ gx hx. some_declr_ok q with_skeleton d b bs _ (abstract_is all d wf.3)
+          (back w (words_starts (a q) ws) _ found) gx hx) g in
           (one.0, (some_nameless all d wf.3, (one.1.0, one.1.1.0)))
       word_ok q alone (align attr) t b bs s wf found g h = (h, tt)
       word_ok q alone (auto_word token) t b bs s wf found g h = (h, tt)
 
-      struct_ok : (q alone : Bool) (kind : TagKind) (keyword : ℕ) (tag : Option Identifier) (body : SomeBody) (t : CType)
+      struct_ok : (q alone : Bool) (kind : TagKind) (keyword : ℕ) (tag : Option Identifier)
+          (body : SomeBody) (t : CType)
           (b : Bool) (bs : List Bool) (s : Names) → IsBody all body → AreFound w (some_body_starts (a q) body) →
           Grows (struct_named u alone kind keyword tag body t s).names S → G (b ∷ bs) s →
           G (b ∷ bs) (struct_named u alone kind keyword tag body t s).names × SomeBodyHas U V W body
@@ -518,7 +574,8 @@ module _ (w : World) (well : AreWell w.names.declared) (uses_differ : UsesDiffer
           struct_items_ok q _ items b bs _ wf found g (begun_good b bs kind keyword tag s h)
 
       struct_items_ok : (q : Bool) (n : ℕ) (items : StructItems) (b : Bool) (bs : List Bool) (s : Names) →
-          AreStructItems all items → AreFound w (struct_items_starts (a q) items) → Grows (struct_items_named u n items s) S → G (b ∷ bs) s →
+          AreStructItems all items → AreFound w (struct_items_starts (a q) items)
+          → Grows (struct_items_named u n items s) S → G (b ∷ bs) s →
           G (b ∷ bs) (struct_items_named u n items s) × StructItemsHave U V W items
       struct_items_ok q n no_struct_items b bs s wf found g h = (h, tt)
       struct_items_ok q n (more_struct_items item items) b bs s wf found g h =
@@ -528,7 +585,8 @@ module _ (w : World) (well : AreWell w.names.declared) (uses_differ : UsesDiffer
           (two.0, (one.1, two.1))
 
       struct_item_ok : (q : Bool) (n : ℕ) (item : StructItem) (b : Bool) (bs : List Bool) (s : Names) →
-          IsStructItem all item → AreFound w (struct_item_starts (a q) item) → Grows (struct_item_named u n item s) S → G (b ∷ bs) s →
+          IsStructItem all item → AreFound w (struct_item_starts (a q) item) → Grows (struct_item_named u n item s) S
+          → G (b ∷ bs) s →
           G (b ∷ bs) (struct_item_named u n item s) × StructItemHas U V W item
       struct_item_ok q n (member exts ws ds semi) b bs s wf found g h =
           let t = (words_named u false ws (base []) [] s).type in
@@ -551,7 +609,8 @@ module _ (w : World) (well : AreWell w.names.declared) (uses_differ : UsesDiffer
           (two.0, (one.1, two.1))
 
       mem_declrs_ok : (q : Bool) (n : ℕ) (t : CType) (ds : MemDeclrs) (b : Bool) (bs : List Bool) (s : Names) →
-          AreMemDeclrs all ds → AreFound w (mem_declrs_starts (a q) ds) → Grows (mem_declrs_named u n t ds s) S → G (b ∷ bs) s →
+          AreMemDeclrs all ds → AreFound w (mem_declrs_starts (a q) ds) → Grows (mem_declrs_named u n t ds s) S
+          → G (b ∷ bs) s →
           G (b ∷ bs) (mem_declrs_named u n t ds s) × MemDeclrsHave U V W ds
       mem_declrs_ok q n t no_mem_declrs b bs s wf found g h = (h, tt)
       mem_declrs_ok q n t (more_mem_declrs attrs d ds) b bs s wf found g h =
@@ -561,7 +620,8 @@ module _ (w : World) (well : AreWell w.names.declared) (uses_differ : UsesDiffer
           (two.0, (one.1, two.1))
 
       mem_declr_ok : (q : Bool) (n : ℕ) (t : CType) (d : MemDeclr) (b : Bool) (bs : List Bool) (s : Names) →
-          IsMemDeclr all d → AreFound w (mem_declr_starts (a q) d) → Grows (mem_declr_named u n t d s) S → G (b ∷ bs) s →
+          IsMemDeclr all d → AreFound w (mem_declr_starts (a q) d) → Grows (mem_declr_named u n t d s) S
+          → G (b ∷ bs) s →
           G (b ∷ bs) (mem_declr_named u n t d s) × MemDeclrHas U V W d
       mem_declr_ok q n t (named d width attrs) b bs s wf found g h =
           let fd = front w (declr_starts (a q) with_skeleton without_skeleton d) _ found in
@@ -570,26 +630,32 @@ module _ (w : World) (well : AreWell w.names.declared) (uses_differ : UsesDiffer
           (joins (member_grows u (declared_name d) n _ _) gv) h in
           let two = member_good w well q f (b ∷ bs) (declared_name d) n _ _ gv
           (λ it e. name_found w (a q) with_skeleton without_skeleton d it e fd) one.0 in (
-            some_value_ok q width b bs _ wf.2 (back w (declr_starts (a q) with_skeleton without_skeleton d) _ found) g two.0,
+            some_value_ok q width b bs _ wf.2
+                (back w (declr_starts (a q) with_skeleton without_skeleton d) _ found) g two.0,
             (two.1, one.1),
           )
-      mem_declr_ok q n t (unnamed colon e attrs) b bs s wf found g h = ((expr_ok true true false e b bs s (λ is. absurd cc) wf.0 (λ is. absurd cc) found g h).0, tt)
+      mem_declr_ok q n t (unnamed colon e attrs) b bs s wf found g h =
+          ((expr_ok true true false e b bs s (λ is. absurd cc) wf.0 (λ is. absurd cc) found g h).0, tt)
 
       some_value_ok : (q : Bool) (it : SomeValue) (b : Bool) (bs : List Bool) (s : Names) →
-          IsSomeValue all it → AreFound w (some_value_starts (a q) it) → Grows (some_value_named u it s) S → G (b ∷ bs) s →
+          IsSomeValue all it → AreFound w (some_value_starts (a q) it) → Grows (some_value_named u it s) S
+          → G (b ∷ bs) s →
           G (b ∷ bs) (some_value_named u it s)
       some_value_ok q no_value b bs s wf found g h = h
-      some_value_ok q (some_value token e) b bs s wf found g h = (expr_ok true true false e b bs s (λ is. absurd cc) wf.0 (λ is. absurd cc) found g h).0
+      some_value_ok q (some_value token e) b bs s wf found g h =
+          (expr_ok true true false e b bs s (λ is. absurd cc) wf.0 (λ is. absurd cc) found g h).0
 
       enum_ok : (q : Bool) (e : EnumType) (b : Bool) (bs : List Bool) (s : Names) → IsEnum all e
           → AreFound w (enum_starts (a q) e) →
           Grows (enum_named u e s) S → G (b ∷ bs) s → G (b ∷ bs) (enum_named u e s)
-      enum_ok q (enum_of keyword attrs tag no_enum_body) b bs s wf found g h = tag_good b bs false tags.Enum tag (base []) s h
+      enum_ok q (enum_of keyword attrs tag no_enum_body) b bs s wf found g h =
+          tag_good b bs false tags.Enum tag (base []) s h
       enum_ok q (enum_of keyword attrs tag (some_enum_body opening es last closing)) b bs s wf found g h =
           enumerators_ok q es b bs _ wf.2.1 found g (begun_good b bs tags.Enum keyword tag s h)
 
       enumerators_ok : (q : Bool) (es : Enumerators) (b : Bool) (bs : List Bool) (s : Names) →
-          AreEnumerators all es → AreFound w (enumerators_starts (a q) es) → Grows (enumerators_named u es s) S → G (b ∷ bs) s →
+          AreEnumerators all es → AreFound w (enumerators_starts (a q) es) → Grows (enumerators_named u es s) S
+          → G (b ∷ bs) s →
           G (b ∷ bs) (enumerators_named u es s)
       enumerators_ok q no_enumerators b bs s wf found g h = h
       enumerators_ok q (more_enumerators name attrs value es) b bs s wf found g h =
@@ -599,10 +665,13 @@ module _ (w : World) (well : AreWell w.names.declared) (uses_differ : UsesDiffer
           enumerators_ok q es b bs _ wf.2 (back w (some_value_starts (a q) value) _ found) g
           (enumerator_good w well b bs name.token (u.key name.name) (base []) None _ ge one)
 
-      pub declr_ok : (q : Bool) (own : Option Place) (hv gv : Having) (d : Declr) (b : Bool) (bs : List Bool) (s : Names) →
-          OwnOk own gv → IsDeclr all d → AreFound w (declr_starts (a q) hv gv d) → Grows (declr_named u own d s).names S → G (b ∷ bs) s →
+      pub declr_ok : (q : Bool) (own : Option Place) (hv gv : Having) (d : Declr) (b : Bool)
+          (bs : List Bool) (s : Names) →
+          OwnOk own gv → IsDeclr all d → AreFound w (declr_starts (a q) hv gv d) → Grows (declr_named u own d s).names S
+          → G (b ∷ bs) s →
           G (b ∷ bs) (declr_named u own d s).names × DeclrHas U V W d
-      declr_ok q own hv gv (pointer star words d) b bs s ok wf found g h = declr_ok q own hv gv d b bs s ok wf.1 found g h
+      declr_ok q own hv gv (pointer star words d) b bs s ok wf found g h =
+          declr_ok q own hv gv d b bs s ok wf.1 found g h
       declr_ok q own hv gv (declr_name token name) b bs s ok wf found g h = (h, tt)
       declr_ok q own hv gv (declr_paren opening attrs d closing) b bs s ok wf found g h =
           declr_ok q own hv gv d b bs s ok wf.1 found g h
@@ -624,32 +693,36 @@ module _ (w : World) (well : AreWell w.names.declared) (uses_differ : UsesDiffer
           let one = declr_ok q own hv gv d b bs s ok wf.0 found (joins (enter_grows _) (joins (leave_grows _) g)) h in
           (good_leave w well true (b ∷ bs) _ (good_enter w well true (b ∷ bs) _ one.0), one.1)
       declr_ok q own hv gv (base_name token) b bs s ok wf found g h = (h, tt)
-      declr_ok q own hv gv (abs_pointer star words d) b bs s ok wf found g h = some_declr_ok q hv d b bs s (some_declared all d wf.1) found g h
+      declr_ok q own hv gv (abs_pointer star words d) b bs s ok wf found g h =
+          some_declr_ok q hv d b bs s (abstract_is all d wf.1) found g h
       declr_ok q own hv gv (abs_paren opening attrs d closing) b bs s ok wf found g h =
           declr_ok q own hv gv d b bs s ok wf.1 found g h
       declr_ok q own hv gv (abs_array d opening words size closing) b bs s ok wf found g h =
-          let one = some_declr_ok q hv d b bs s (direct_declared all d wf.0) (front w (some_declr_starts (a q) hv d) _ found)
+          let one = some_declr_ok q hv d b bs s (direct_is all d wf.0) (front w (some_declr_starts (a q) hv d) _ found)
           (joins (some_size_grows u size _) g) h in
           (some_size_ok q size b bs _ wf.2 (back w (some_declr_starts (a q) hv d) _ found) g one.0, one.1)
       declr_ok q own hv gv (abs_params d opening ps dots closing) b bs s ok wf found g h =
           let gp = joins (leave_grows _) g in
-          let one = some_declr_ok q hv d b bs s (direct_declared all d wf.0) (front w (some_declr_starts (a q) hv d) _ found)
+          let one = some_declr_ok q hv d b bs s (direct_is all d wf.0) (front w (some_declr_starts (a q) hv d) _ found)
           (joins (enter_grows _) (joins (params_grow u 0 None ps _) gp)) h in
           let two = params_ok q 0 None without_skeleton ps false (b ∷ bs) _ (λ e. absurd cc) wf.1
           (back w (some_declr_starts (a q) hv d) _ found) gp (good_enter w well false (b ∷ bs) _ one.0) in
           (good_leave w well false (b ∷ bs) _ two.0, (one.1, two.1))
 
       some_declr_ok : (q : Bool) (hv : Having) (d : SomeDeclr) (b : Bool) (bs : List Bool) (s : Names) →
-          IsSomeDeclr all d → AreFound w (some_declr_starts (a q) hv d) → Grows (some_declr_named u d s).names S → G (b ∷ bs) s →
+          IsSomeDeclr all d → AreFound w (some_declr_starts (a q) hv d) → Grows (some_declr_named u d s).names S
+          → G (b ∷ bs) s →
           G (b ∷ bs) (some_declr_named u d s).names × SomeDeclrHas U V W d
       some_declr_ok q hv no_declr b bs s wf found g h = (h, tt)
-      some_declr_ok q hv (some_declr d) b bs s wf found g h = declr_ok q None hv without_skeleton d b bs s tt wf found g h
+      some_declr_ok q hv (some_declr d) b bs s wf found g h =
+          declr_ok q None hv without_skeleton d b bs s tt wf found g h
 
       pub some_size_ok : (q : Bool) (it : SomeSize) (b : Bool) (bs : List Bool) (s : Names) →
           IsSize all it → AreFound w (some_size_starts (a q) it) → Grows (some_size_named u it s) S → G (b ∷ bs) s →
           G (b ∷ bs) (some_size_named u it s)
       some_size_ok q no_size b bs s wf found g h = h
-      some_size_ok q (some_size (size_value e)) b bs s wf found g h = (expr_ok true true false e b bs s (λ is. absurd cc) wf.0 (λ is. absurd cc) found g h).0
+      some_size_ok q (some_size (size_value e)) b bs s wf found g h =
+          (expr_ok true true false e b bs s (λ is. absurd cc) wf.0 (λ is. absurd cc) found g h).0
       some_size_ok q (some_size (size_star star)) b bs s wf found g h = h
 
       pub params_ok : (q : Bool) (i : ℕ) (own : Option Place) (hv : Having) (ps : Params) (c : Bool) (bs : List Bool)
@@ -667,32 +740,40 @@ module _ (w : World) (well : AreWell w.names.declared) (uses_differ : UsesDiffer
           let two = some_declr_ok q hv d c bs _ wf.3 fd gd one.0 in
           let three = param_good w well q f c bs (some_declared_name d) i own _ _ gr
           (λ it e is. own_name q hv it.token (has is) (some_name_found w (a q) hv d it e fd)) two.0 in
-          let four = params_ok q (suc i) own hv ps c bs _ has wf.6 (back w (some_declr_starts (a q) hv d) _ behind) g three in
+          let four =
+          params_ok q (suc i) own hv ps c bs _ has wf.6 (back w (some_declr_starts (a q) hv d) _ behind) g three in
           (four.0, (param_has w well (some_declared_name d) i own _ _ gr, (one.1, (two.1, four.1))))
 
       init_ok : (q r : Bool) (it : Init) (b : Bool) (bs : List Bool) (s : Names) → Loud r (b ∷ bs) →
-          IsInit all it → (r ≡ false → AreChosen w (init_selections u S it)) → AreFound w (init_starts (a q) it) → Grows (init_named u it s) S → G (b ∷ bs) s →
+          IsInit all it → (r ≡ false → AreChosen w (init_selections u S it)) → AreFound w (init_starts (a q) it)
+          → Grows (init_named u it s) S → G (b ∷ bs) s →
           G (b ∷ bs) (init_named u it s) × (r ≡ false → InitHas P U V W it)
       init_ok q r (init_value e) b bs s l wf ch found g h = expr_ok q r false e b bs s l wf.0 ch found g h
       init_ok q r (init_braced list) b bs s l wf ch found g h = list_ok q r list b bs s l wf ch found g h
 
       list_ok : (q r : Bool) (list : InitList) (b : Bool) (bs : List Bool) (s : Names) → Loud r (b ∷ bs) →
-          IsInitList all list → (r ≡ false → AreChosen w (init_list_selections u S list)) → AreFound w (init_list_starts (a q) list) → Grows (init_list_named u list s) S →
+          IsInitList all list → (r ≡ false → AreChosen w (init_list_selections u S list))
+          → AreFound w (init_list_starts (a q) list) → Grows (init_list_named u list s) S →
           G (b ∷ bs) s → G (b ∷ bs) (init_list_named u list s) × (r ≡ false → InitListHas P U V W list)
       list_ok q r (init_list opening items last closing) b bs s l wf ch found g h =
           init_items_ok q r items b bs s l wf.0 ch found g h
 
       init_items_ok : (q r : Bool) (items : InitItems) (b : Bool) (bs : List Bool) (s : Names) → Loud r (b ∷ bs) →
-          AreInitItems all items → (r ≡ false → AreChosen w (init_items_selections u S items)) → AreFound w (init_items_starts (a q) items) →
+          AreInitItems all items → (r ≡ false → AreChosen w (init_items_selections u S items))
+          → AreFound w (init_items_starts (a q) items) →
           Grows (init_items_named u items s) S → G (b ∷ bs) s →
           G (b ∷ bs) (init_items_named u items s) × (r ≡ false → InitItemsHave P U V W items)
       init_items_ok q r no_init_items b bs s l wf ch found g h = (h, λ is. tt)
       init_items_ok q r (more_init_items ds equal it items) b bs s l wf ch found g h =
           let behind = back w (desigs_starts (a q) ds) _ found in
           let gi = joins (init_items_grow u items _) g in
-          let one = desigs_ok q ds b bs s (desigs_are all ds wf.0) (front w (desigs_starts (a q) ds) _ found) (joins (init_grows u it _) gi) h in
-          let two = init_ok q r it b bs _ l wf.2 (chf (init_selections u S it) _ (chb (desigs_selections u S ds) _ ch)) (front w (init_starts (a q) it) _ behind) gi one in
-          let three = init_items_ok q r items b bs _ l wf.3 (chb (init_selections u S it) _ (chb (desigs_selections u S ds) _ ch)) (back w (init_starts (a q) it) _ behind) g two.0 in
+          let one = desigs_ok q ds b bs s (desigs_are all ds wf.0) (front w (desigs_starts (a q) ds) _ found)
+          (joins (init_grows u it _) gi) h in
+          let two = init_ok q r it b bs _ l wf.2 (chf (init_selections u S it) _ (chb (desigs_selections u S ds) _ ch))
+          (front w (init_starts (a q) it) _ behind) gi one in
+          let three =
+          init_items_ok q r items b bs _ l wf.3 (chb (init_selections u S it) _ (chb (desigs_selections u S ds) _ ch))
+          (back w (init_starts (a q) it) _ behind) g two.0 in
           (three.0, λ is. (two.1 is, three.1 is))
 
       desigs_ok : (q : Bool) (ds : Desigs) (b : Bool) (bs : List Bool) (s : Names) →
@@ -702,7 +783,8 @@ module _ (w : World) (well : AreWell w.names.declared) (uses_differ : UsesDiffer
       desigs_ok q (more_desigs (member_desig token name) ds) b bs s wf found g h = desigs_ok q ds b bs s wf found g h
       desigs_ok q (more_desigs (index_desig opening e closing) ds) b bs s wf found g h =
           desigs_ok q ds b bs _ wf.1 (back w (expr_starts (a true) e) _ found) g
-          ((expr_ok true true false e b bs s (λ is. absurd cc) wf.0 (λ is. absurd cc) (front w (expr_starts (a true) e) _ found)
+          ((expr_ok true true false e b bs s (λ is. absurd cc) wf.0 (λ is. absurd cc)
+          (front w (expr_starts (a true) e) _ found)
           (joins (desigs_grow u ds _) g) h).0)
       desigs_ok q (more_desigs (range_desig opening e dots e2 closing) ds) b bs s wf found g h =
           let here = front w (desig_starts (a q) (range_desig opening e dots e2 closing)) _ found in
@@ -711,11 +793,13 @@ module _ (w : World) (well : AreWell w.names.declared) (uses_differ : UsesDiffer
           (front w (expr_starts (a true) e) _ here) (joins (expr_grows u false e2 _) g2) h in
           let two = expr_ok true true false e2 b bs _ (λ is. absurd cc) wf.1.0 (λ is. absurd cc)
           (back w (expr_starts (a true) e) _ here) g2 one.0 in
-          desigs_ok q ds b bs _ wf.1.1 (back w (desig_starts (a q) (range_desig opening e dots e2 closing)) _ found) g two.0
+          desigs_ok q ds b bs _ wf.1.1
+          (back w (desig_starts (a q) (range_desig opening e dots e2 closing)) _ found) g two.0
       desigs_ok q (more_desigs (old_desig name colon) ds) b bs s wf found g h = desigs_ok q ds b bs s wf found g h
 
       pub some_init_ok : (q r : Bool) (it : SomeInit) (b : Bool) (bs : List Bool) (s : Names) → Loud r (b ∷ bs) →
-          IsSomeInit all it → (r ≡ false → AreChosen w (some_init_selections u S it)) → AreFound w (some_init_starts (a q) it) → Grows (some_init_named u it s) S →
+          IsSomeInit all it → (r ≡ false → AreChosen w (some_init_selections u S it))
+          → AreFound w (some_init_starts (a q) it) → Grows (some_init_named u it s) S →
           G (b ∷ bs) s → G (b ∷ bs) (some_init_named u it s) × (r ≡ false → SomeInitHas P U V W it)
       some_init_ok q r no_init b bs s l wf ch found g h = (h, λ is. tt)
       some_init_ok q r (some_init equal it) b bs s l wf ch found g h = init_ok q r it b bs s l wf ch found g h
@@ -736,14 +820,16 @@ module _ (w : World) (well : AreWell w.names.declared) (uses_differ : UsesDiffer
           (joins (some_grows u (untagged_number is_untagged t) (declared_name d) words _ _) gi) h in
           let two = some_good w well q f bs (untagged_number is_untagged t) (declared_name d) words _ _ gi
           (λ name e. name_found w (a q) with_skeleton without_skeleton d name e fd) one.0 in
-          let three = some_init_ok q r it true bs _ (λ is. (refl, l is)) wf.5 (chf (some_init_selections u S it) _ (chb (declr_selections u S d) _ ch))
+          let three = some_init_ok q r it true bs _ (λ is. (refl, l is)) wf.5
+          (chf (some_init_selections u S it) _ (chb (declr_selections u S d) _ ch))
           (front w (some_init_starts (a q) it) _ behind) gr two.0 in
-          let four = init_declrs_ok q r words false t ds bs _ l wf.6 (chb (some_init_selections u S it) _ (chb (declr_selections u S d) _ ch)) (back w (some_init_starts (a q) it) _ behind) g
-          three.0 in
+          let four = init_declrs_ok q r words false t ds bs _ l wf.6 (chb (some_init_selections u S it) _
+          (chb (declr_selections u S d) _ ch)) (back w (some_init_starts (a q) it) _ behind) g three.0 in
           (four.0, λ is. (two.1, (one.1, (three.1 is, four.1 is))))
 
       declaration_ok : (q r : Bool) (d : Declaration) (bs : List Bool) (s : Names) → Loud r bs →
-          IsDeclaration all d → (r ≡ false → AreChosen w (declaration_selections u S d)) → AreFound w (declaration_starts (a q) d) →
+          IsDeclaration all d → (r ≡ false → AreChosen w (declaration_selections u S d))
+          → AreFound w (declaration_starts (a q) d) →
           Grows (declaration_named u d s) S → G (true ∷ bs) s →
           G (true ∷ bs) (declaration_named u d s) × (r ≡ false → DeclarationHas P U V W d)
       declaration_ok q r (declaration exts ws ds semi) bs s l wf ch found g h =
@@ -752,7 +838,8 @@ module _ (w : World) (well : AreWell w.names.declared) (uses_differ : UsesDiffer
           let c : CType = (words_named u (is_tag_alone ws ds) ws (base []) [] s).type in
           let x : Names = auto_declrs_named u (said_words ws) (has_untagged ws) semi c ds n in
           let y : Names = init_declrs_named u (said_words ws) (has_untagged ws) c ds n in
-          let one = words_ok q (is_tag_alone ws ds) ws (base []) [] true bs s wf.1 (front w (words_starts (a q) ws) _ found)
+          let one =
+          words_ok q (is_tag_alone ws ds) ws (base []) [] true bs s wf.1 (front w (words_starts (a q) ws) _ found)
           (joins (grows_where (are_auto ws ds) n x y (auto_declrs_grow u (said_words ws) (has_untagged ws) semi c ds n)
           (init_declrs_grow u (said_words ws) (has_untagged ws) c ds n)) g) h in
           let two = either_ok (are_auto ws ds) (true ∷ bs) x y (r ≡ false → InitDeclrsHave P U V W ds) g
@@ -770,17 +857,20 @@ module _ (w : World) (well : AreWell w.names.declared) (uses_differ : UsesDiffer
           G (true ∷ bs) s →
           G (true ∷ bs) (auto_declrs_named u words is_untagged semi t ds s) × (r ≡ false → InitDeclrsHave P U V W ds)
       auto_declrs_ok q r words is_untagged semi t no_init_declrs bs s l v wf ch found g h = (h, λ is. tt)
-      auto_declrs_ok q r words is_untagged semi t (more_init_declrs attrs d asm_label attrs2 no_init ds) bs s l v wf ch found g h =
+      auto_declrs_ok q r words is_untagged semi t
+          (more_init_declrs attrs d asm_label attrs2 no_init ds) bs s l v wf ch found g h =
           absurd (no_value v)
         where
           no_value : false ≡ true → ⊥
           no_value e = cc
-      auto_declrs_ok q r words is_untagged semi t (more_init_declrs attrs d asm_label attrs2 (some_init equal (init_braced list)) ds)
+      auto_declrs_ok q r words is_untagged semi t
+          (more_init_declrs attrs d asm_label attrs2 (some_init equal (init_braced list)) ds)
           bs s l v wf ch found g h = absurd (no_value v)
         where
           no_value : false ≡ true → ⊥
           no_value e = cc
-      auto_declrs_ok q r words is_untagged semi t (more_init_declrs attrs d asm_label attrs2 (some_init equal (init_value e)) ds)
+      auto_declrs_ok q r words is_untagged semi t
+          (more_init_declrs attrs d asm_label attrs2 (some_init equal (init_value e)) ds)
           bs s l v wf ch found g h =
           let fd = front w (declr_starts (a q) with_skeleton without_skeleton d) _ found in
           let behind = back w (declr_starts (a q) with_skeleton without_skeleton d) _ found in
@@ -790,7 +880,8 @@ module _ (w : World) (well : AreWell w.names.declared) (uses_differ : UsesDiffer
           let last : Names = auto_state words is_untagged semi t (declared_name d) e v2 in
           let gr : Grows last S = joins (auto_declrs_grow u words false semi t ds last) g in
           let gv : Grows v2 S = joins (auto_state_grows words is_untagged semi t (declared_name d) e v2) gr in
-          let one = declr_ok q None with_skeleton without_skeleton d true bs s tt wf.1 fd (joins (expr_grows u false e n) gv) h in
+          let one =
+          declr_ok q None with_skeleton without_skeleton d true bs s tt wf.1 fd (joins (expr_grows u false e n) gv) h in
           let two = expr_ok q r false e true bs n (λ is. (refl, l is)) wf.5.0 (chf (expr_selections u S e) _ those)
           (front w (expr_starts (a q) e) _ behind) gv one.0 in
           let three = auto_good q bs words is_untagged semi t (declared_name d) e v2 gr
@@ -807,18 +898,22 @@ module _ (w : World) (well : AreWell w.names.declared) (uses_differ : UsesDiffer
       decl_ok q r (decl_assert it) bs s l wf ch found g h = (h, λ is. tt)
 
       pub block_items_ok : (q r : Bool) (items : BlockItems) (bs : List Bool) (s : Names) → Loud r bs →
-          AreBlockItems all items → (r ≡ false → AreChosen w (block_items_selections u S items)) → AreFound w (block_items_starts (a q) items) →
+          AreBlockItems all items → (r ≡ false → AreChosen w (block_items_selections u S items))
+          → AreFound w (block_items_starts (a q) items) →
           Grows (block_items_named u items s) S → G (true ∷ bs) s →
           G (true ∷ bs) (block_items_named u items s) × (r ≡ false → BlockItemsHave P U V W items)
       block_items_ok q r no_block_items bs s l wf ch found g h = (h, λ is. tt)
       block_items_ok q r (more_block_items item items) bs s l wf ch found g h =
-          let one = block_item_ok q r item bs s l wf.0 (chf (block_item_selections u S item) _ ch) (front w (block_item_starts (a q) item) _ found)
+          let one = block_item_ok q r item bs s l wf.0 (chf (block_item_selections u S item) _ ch)
+          (front w (block_item_starts (a q) item) _ found)
           (joins (block_items_grow u items _) g) h in
-          let two = block_items_ok q r items bs _ l wf.1 (chb (block_item_selections u S item) _ ch) (back w (block_item_starts (a q) item) _ found) g one.0 in
+          let two = block_items_ok q r items bs _ l wf.1 (chb (block_item_selections u S item) _ ch)
+          (back w (block_item_starts (a q) item) _ found) g one.0 in
           (two.0, λ is. (one.1 is, two.1 is))
 
       block_item_ok : (q r : Bool) (item : BlockItem) (bs : List Bool) (s : Names) → Loud r bs →
-          IsBlockItem all item → (r ≡ false → AreChosen w (block_item_selections u S item)) → AreFound w (block_item_starts (a q) item) →
+          IsBlockItem all item → (r ≡ false → AreChosen w (block_item_selections u S item))
+          → AreFound w (block_item_starts (a q) item) →
           Grows (block_item_named u item s) S → G (true ∷ bs) s →
           G (true ∷ bs) (block_item_named u item s) × (r ≡ false → BlockItemHas P U V W item)
       block_item_ok q r (block_decl d) bs s l wf ch found g h = decl_ok q r d bs s l wf ch found g h
@@ -833,12 +928,14 @@ module _ (w : World) (well : AreWell w.names.declared) (uses_differ : UsesDiffer
           let one = block_items_ok q r items (true ∷ bs) _ (λ is. (refl, l is)) wf.0 ch found (joins (leave_grows _) g)
           (good_enter w well true (true ∷ bs) s h) in
           (good_leave w well true (true ∷ bs) _ one.0, one.1)
-      stmt_ok q r (expr_stmt e semi) bs s l wf ch found g h = some_expr_ok q r e true bs s (λ is. (refl, l is)) wf ch found g h
+      stmt_ok q r (expr_stmt e semi) bs s l wf ch found g h =
+          some_expr_ok q r e true bs s (λ is. (refl, l is)) wf ch found g h
       stmt_ok q r (attr_stmt attrs semi) bs s l wf ch found g h = (h, λ is. tt)
       stmt_ok q r (label name colon attrs t) bs s l wf ch found g h = stmt_ok q r t bs s l wf.1 ch found g h
       stmt_ok q r (case_stmt keyword e colon t) bs s l wf ch found g h =
           stmt_ok q r t bs _ l wf.2 (chb (expr_selections u S e) _ ch) (back w (expr_starts (a true) e) _ found) g
-          ((expr_ok true true false e true bs s (λ is. absurd cc) wf.0 (λ is. absurd cc) (front w (expr_starts (a true) e) _ found)
+          ((expr_ok true true false e true bs s (λ is. absurd cc) wf.0 (λ is. absurd cc)
+          (front w (expr_starts (a true) e) _ found)
           (joins (stmt_grows u t _) g) h).0)
       stmt_ok q r (default_stmt keyword colon t) bs s l wf ch found g h = stmt_ok q r t bs s l wf ch found g h
       stmt_ok q r (if_stmt keyword opening e closing t other) bs s l wf ch found g h =
@@ -847,18 +944,22 @@ module _ (w : World) (well : AreWell w.names.declared) (uses_differ : UsesDiffer
           let go = joins (leave_grows _) g in
           let gl = joins (some_else_grows u other _) go in
           let gs = joins (leave_grows _) gl in
-          let one = expr_ok q r false e true (true ∷ bs) _ (λ is. (refl, loud is)) wf.0 (chf (expr_selections u S e) _ ch)
+          let one =
+          expr_ok q r false e true (true ∷ bs) _ (λ is. (refl, loud is)) wf.0 (chf (expr_selections u S e) _ ch)
           (front w (expr_starts (a q) e) _ found)
           (joins (enter_grows _) (joins (stmt_grows u t _) gs)) (good_enter w well true (true ∷ bs) s h) in
-          let two = stmt_ok q r t (true ∷ true ∷ bs) _ (λ is. (refl, loud is)) wf.1 (chf (stmt_selections u S t) _ (chb (expr_selections u S e) _ ch))
+          let two = stmt_ok q r t (true ∷ true ∷ bs) _ (λ is. (refl, loud is)) wf.1
+          (chf (stmt_selections u S t) _ (chb (expr_selections u S e) _ ch))
           (front w (stmt_starts (a q) t) _ behind) gs (good_enter w well true (true ∷ true ∷ bs) _ one.0) in
-          let three = some_else_ok q r other t (true ∷ bs) _ loud wf.2 (chb (stmt_selections u S t) _ (chb (expr_selections u S e) _ ch)) (back w (stmt_starts (a q) t) _ behind) go
+          let three = some_else_ok q r other t (true ∷ bs) _ loud wf.2
+          (chb (stmt_selections u S t) _ (chb (expr_selections u S e) _ ch)) (back w (stmt_starts (a q) t) _ behind) go
           (good_leave w well true (true ∷ true ∷ bs) _ two.0) in
           (good_leave w well true (true ∷ bs) _ three.0, λ is. (one.1 is, (two.1 is, three.1 is)))
       stmt_ok q r (switch_stmt keyword opening e closing t) bs s l wf ch found g h =
           let loud : Loud r (true ∷ bs) = λ is. (refl, l is) in
           let gs = joins (leave_grows _) (joins (leave_grows _) g) in
-          let one = expr_ok q r false e true (true ∷ bs) _ (λ is. (refl, loud is)) wf.0 (chf (expr_selections u S e) _ ch)
+          let one =
+          expr_ok q r false e true (true ∷ bs) _ (λ is. (refl, loud is)) wf.0 (chf (expr_selections u S e) _ ch)
           (front w (expr_starts (a q) e) _ found) (joins (enter_grows _) (joins (stmt_grows u t _) gs))
           (good_enter w well true (true ∷ bs) s h) in
           let two = stmt_ok q r t (true ∷ true ∷ bs) _ (λ is. (refl, loud is)) wf.1 (chb (expr_selections u S e) _ ch)
@@ -869,7 +970,8 @@ module _ (w : World) (well : AreWell w.names.declared) (uses_differ : UsesDiffer
       stmt_ok q r (while_stmt keyword opening e closing t) bs s l wf ch found g h =
           let loud : Loud r (true ∷ bs) = λ is. (refl, l is) in
           let gs = joins (leave_grows _) (joins (leave_grows _) g) in
-          let one = expr_ok q r false e true (true ∷ bs) _ (λ is. (refl, loud is)) wf.0 (chf (expr_selections u S e) _ ch)
+          let one =
+          expr_ok q r false e true (true ∷ bs) _ (λ is. (refl, loud is)) wf.0 (chf (expr_selections u S e) _ ch)
           (front w (expr_starts (a q) e) _ found) (joins (enter_grows _) (joins (stmt_grows u t _) gs))
           (good_enter w well true (true ∷ bs) s h) in
           let two = stmt_ok q r t (true ∷ true ∷ bs) _ (λ is. (refl, loud is)) wf.1 (chb (expr_selections u S e) _ ch)
@@ -884,7 +986,8 @@ module _ (w : World) (well : AreWell w.names.declared) (uses_differ : UsesDiffer
           let one = stmt_ok q r t (true ∷ true ∷ bs) _ (λ is. (refl, loud is)) wf.0 (chf (stmt_selections u S t) _ ch)
           (front w (stmt_starts (a q) t) _ found) (joins (leave_grows _) gl)
           (good_enter w well true (true ∷ true ∷ bs) _ (good_enter w well true (true ∷ bs) s h)) in
-          let two = expr_ok q r false e true (true ∷ bs) _ (λ is. (refl, loud is)) wf.1 (chb (stmt_selections u S t) _ ch)
+          let two =
+          expr_ok q r false e true (true ∷ bs) _ (λ is. (refl, loud is)) wf.1 (chb (stmt_selections u S t) _ ch)
           (back w (stmt_starts (a q) t) _ found) ge (good_leave w well true (true ∷ true ∷ bs) _ one.0) in
           (good_leave w well true (true ∷ bs) _ two.0, λ is. (one.1 is, two.1 is))
       stmt_ok q r (for_stmt keyword opening start e semi e2 closing t) bs s l wf ch found g h =
@@ -897,11 +1000,15 @@ module _ (w : World) (well : AreWell w.names.declared) (uses_differ : UsesDiffer
           let one = for_start_ok q r start (true ∷ bs) _ loud wf.0 (chf (for_start_selections u S start) _ ch)
           (front w (for_start_starts (a q) start) _ found) (joins (some_expr_grows u e _) g1)
           (good_enter w well true (true ∷ bs) s h) in
-          let two = some_expr_ok q r e true (true ∷ bs) _ (λ is. (refl, loud is)) wf.1 (chf (some_expr_selections u S e) _ (chb (for_start_selections u S start) _ ch))
+          let two = some_expr_ok q r e true (true ∷ bs) _ (λ is. (refl, loud is)) wf.1
+          (chf (some_expr_selections u S e) _ (chb (for_start_selections u S start) _ ch))
           (front w (some_expr_starts (a q) e) _ behind) g1 one.0 in
-          let three = some_expr_ok q r e2 true (true ∷ bs) _ (λ is. (refl, loud is)) wf.2 (chf (some_expr_selections u S e2) _ (chb (some_expr_selections u S e) _ (chb (for_start_selections u S start) _ ch)))
+          let three =
+          some_expr_ok q r e2 true (true ∷ bs) _ (λ is. (refl, loud is)) wf.2 (chf (some_expr_selections u S e2) _
+          (chb (some_expr_selections u S e) _ (chb (for_start_selections u S start) _ ch)))
           (front w (some_expr_starts (a q) e2) _ last) g2 two.0 in
-          let four = stmt_ok q r t (true ∷ true ∷ bs) _ (λ is. (refl, loud is)) wf.3 (chb (some_expr_selections u S e2) _ (chb (some_expr_selections u S e) _ (chb (for_start_selections u S start) _ ch)))
+          let four = stmt_ok q r t (true ∷ true ∷ bs) _ (λ is. (refl, loud is)) wf.3 (chb (some_expr_selections u S e2)
+          _ (chb (some_expr_selections u S e) _ (chb (for_start_selections u S start) _ ch)))
           (back w (some_expr_starts (a q) e2) _ last) gs (good_enter w well true (true ∷ true ∷ bs) _ three.0) in (
             good_leave w well true (true ∷ bs) _ (good_leave w well true (true ∷ true ∷ bs) _ four.0),
             λ is. (one.1 is, (two.1 is, (three.1 is, four.1 is))),
@@ -925,7 +1032,8 @@ module _ (w : World) (well : AreWell w.names.declared) (uses_differ : UsesDiffer
           expr_ok q r false e true bs s (λ is. (refl, l is)) wf ch found g h
 
       some_else_ok : (q r : Bool) (it : SomeElse) (before : Stmt) (bs : List Bool) (s : Names) → Loud r bs →
-          IsOther all before it → (r ≡ false → AreChosen w (some_else_selections u S it)) → AreFound w (some_else_starts (a q) it) → Grows (some_else_named u it s) S →
+          IsOther all before it → (r ≡ false → AreChosen w (some_else_selections u S it))
+          → AreFound w (some_else_starts (a q) it) → Grows (some_else_named u it s) S →
           G (true ∷ bs) s → G (true ∷ bs) (some_else_named u it s) × (r ≡ false → SomeElseHas P U V W it)
       some_else_ok q r no_else before bs s l wf ch found g h = (h, λ is. tt)
       some_else_ok q r (some_else keyword t) before bs s l wf ch found g h =
@@ -934,7 +1042,8 @@ module _ (w : World) (well : AreWell w.names.declared) (uses_differ : UsesDiffer
           (good_leave w well true (true ∷ bs) _ one.0, one.1)
 
       for_start_ok : (q r : Bool) (start : ForStart) (bs : List Bool) (s : Names) → Loud r bs →
-          IsStart all start → (r ≡ false → AreChosen w (for_start_selections u S start)) → AreFound w (for_start_starts (a q) start) →
+          IsStart all start → (r ≡ false → AreChosen w (for_start_selections u S start))
+          → AreFound w (for_start_starts (a q) start) →
           Grows (for_start_named u start s) S → G (true ∷ bs) s →
           G (true ∷ bs) (for_start_named u start s) × (r ≡ false → ForStartHas P U V W start)
       for_start_ok q r (start_declaration d) bs s l wf ch found g h = declaration_ok q r d bs s l wf ch found g h

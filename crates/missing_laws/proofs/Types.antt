@@ -1,6 +1,7 @@
 -- An expression without a fault, whose names are known, has a type.
 use Rattle.std.proofs.Common.{◌≡◌, ℕ, Bool, true, false, List, [], ◌∷◌, ◌++◌, Option, None, Some, refl}
 use Rattle.std.specs.Prelude.{◌&&◌, ◌≢◌, not, is_some, if◌then◌else◌}
+use Rattle.std.proofs.lemmas.Bool.{not-false, and_from}
 use Rattle.c_words.specs.declared.kinds.Punct.{Punct}
 use Rattle.c_words.specs.declared.kinds.Punct.TheVariants as signs
 use Rattle.c_tree.specs.Tree.{Expr, operation, cast, prefix, sizeof_value, sizeof_type, extension, index, call, dot, arrow, post, compound, name_use, number_use, char_use, text_use, paren, statement_expr, va_arg, va_start, va_copy, offset, comma, assign, cond, binary, no_expr, some_expr, BlockItems, no_block_items, more_block_items, BlockItem, block_decl, block_stmt, Stmt, block, expr_stmt, attr_stmt, label, case_stmt, default_stmt, if_stmt, switch_stmt, while_stmt, do_stmt, for_stmt, goto_stmt, continue_stmt, break_stmt, return_stmt, asm_stmt, complex_part, label_use, compat, choose, generic, typeof_value, typeof_type, align, auto_word, range_desig, old_desig, case_range, goto_value, block_labels, identifiers, base_name, Assocs, no_assocs, more_assocs, Assoc, typed_assoc, default_assoc}
@@ -30,10 +31,6 @@ last_none (x ∷ xs) ys h = absurd cc
 pub holds_where : (b : Bool) (at : Place) (rule : Rule) → fault_where b at rule ≡ [] → b ≡ false
 holds_where true at rule h = absurd cc
 holds_where false at rule h = refl
-
-not_false : (b : Bool) → not b ≡ false → b ≡ true
-not_false true h = refl
-not_false false h = absurd cc
 
 -- types that are known
 
@@ -194,14 +191,10 @@ some_is : (o : Option CType) → Is o → is_some o ≡ true
 some_is None h = absurd cc
 some_is (Some t) h = refl
 
-both : (a b : Bool) → a ≡ true → b ≡ true → (a && b) ≡ true
-both true b h k = k
-both false b h k = absurd cc
-
 -- typed candidates all have types, as the test of them says
 have_all : (all : List Candidate) → AllTyped all → have_types all ≡ true
 have_all [] h = refl
-have_all (it ∷ others) h = both (is_some (value it.shape)) (have_types others)
+have_all (it ∷ others) h = and_from (is_some (value it.shape)) (have_types others)
     (some_is (value it.shape) (valued it.shape h.0)) (have_all others h.1)
 
 typed_where : (b : Bool) (o : Option CType) → b ≡ true → Is o → Is (if b then o else None)
@@ -215,7 +208,8 @@ picked_typed (it ∷ []) h some = h.0
 picked_typed (it ∷ (other ∷ others)) h some =
     let all : List Candidate = it ∷ (other ∷ others) in
     typed_where (have_types all) (first_ranked (left_of all)) (have_all all h)
-    (first_typed (left_of all) (or_all_typed (no_zeros all) all (no_zeros_typed all h) h) (or_all_some (no_zeros all) all some))
+    (first_typed (left_of all) (or_all_typed (no_zeros all) all (no_zeros_typed all h) h)
+    (or_all_some (no_zeros all) all some))
 
 -- the candidates of a type are typed, where the associations are
 of_type_typed : (t : CType) (all : List Association) → AssociationsTyped all → AllTyped (candidates_of t all)
@@ -246,7 +240,7 @@ selected_typed (Some t) all h k some = picked_typed (selected t all)
 -- a call without a fault of what has a type has a type
 called : (o : Option CType) (at : Place) (n : ℕ) → Is o → call_faults at o n ≡ [] → Is (some_result_type o)
 called None at n h none = absurd cc
-called (Some t) at n h none = by t (not_false (points_to_function t)
+called (Some t) at n h none = by t (not-false (points_to_function t)
     (holds_where (not (points_to_function t)) at not_function (first_none _ _ none)))
   where
     by : (t : CType) → points_to_function t ≡ true → Is (result_type t)
@@ -292,7 +286,7 @@ module _ (w : World) (U V W : ℕ → Type 0) where
   prefixed : (token : ℕ) (p : Punct) (e : Expr) → Typed e → prefix_faults (place u token) p (sh e) ≡ [] →
       Typed (prefix token p e)
   prefixed token signs.Ampersand e h none = addressed (sh e) h
-      (not_false (sh e).is_place (holds_where (not (sh e).is_place) (place u token) not_place (first_none _ _ none)))
+      (not-false (sh e).is_place (holds_where (not (sh e).is_place) (place u token) not_place (first_none _ _ none)))
   prefixed token signs.Star e h none = pointed (value (sh e)) (valued (sh e) h)
       (holds_where (is_no_pointer (value (sh e))) (place u token) not_pointer none)
   prefixed token signs.PlusPlus e h none = valued (sh e) h

@@ -90,7 +90,8 @@ module _ (w : World) (U V W : ℕ → Type 0) where
           (last_none (member_faults u s (some_target (value (shape_of u s e))) name.token name.name) _
           (last_none (fault_where (is_no_pointer (value (shape_of u s e))) (place u token) not_pointer) _ h)),
     )
-    expr_typed (post e token p) k h = (is_typed (post e token p) k h, expr_typed e k.1 (last_none _ (expr_faults u s e) h))
+    expr_typed (post e token p) k h =
+        (is_typed (post e token p) k h, expr_typed e k.1 (last_none _ (expr_faults u s e) h))
     expr_typed (compound opening ws d closing list) k h = (
       is_typed (compound opening ws d closing list) k h,
       (
@@ -115,11 +116,17 @@ module _ (w : World) (U V W : ℕ → Type 0) where
     )
     expr_typed (va_start keyword opening e separator e2 closing) k h = (
       is_typed (va_start keyword opening e separator e2 closing) k h,
-      (expr_typed e k.1.0 (first_none (expr_faults u s e) _ h), expr_typed e2 k.1.1 (last_none (expr_faults u s e) _ h)),
+      (
+        expr_typed e k.1.0 (first_none (expr_faults u s e) _ h),
+        expr_typed e2 k.1.1 (last_none (expr_faults u s e) _ h),
+      ),
     )
     expr_typed (va_copy keyword opening e separator e2 closing) k h = (
       is_typed (va_copy keyword opening e separator e2 closing) k h,
-      (expr_typed e k.1.0 (first_none (expr_faults u s e) _ h), expr_typed e2 k.1.1 (last_none (expr_faults u s e) _ h)),
+      (
+        expr_typed e k.1.0 (first_none (expr_faults u s e) _ h),
+        expr_typed e2 k.1.1 (last_none (expr_faults u s e) _ h),
+      ),
     )
     expr_typed (offset keyword opening ws d separator name steps closing) k h =
         is_typed (offset keyword opening ws d separator name steps closing) k h

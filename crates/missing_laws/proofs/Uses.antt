@@ -5,7 +5,7 @@ use Rattle.c_words.specs.declared.kinds.Punct.{Punct}
 use Rattle.c_words.specs.declared.kinds.Punct.TheVariants as signs
 use Rattle.c_tree.specs.Tree.{Expr, operation, cast, prefix, sizeof_value, sizeof_type, extension, index, call, dot, arrow, post, compound, name_use, number_use, char_use, text_use, paren, statement_expr, va_arg, va_start, va_copy, offset, comma, assign, cond, binary, Declr, pointer, declr_name, declr_paren, array, params, abs_pointer, abs_paren, abs_array, abs_params, SomeDeclr, no_declr, some_declr, complex_part, label_use, compat, choose, generic, typeof_value, typeof_type, align, auto_word, range_desig, old_desig, case_range, goto_value, block_labels, identifiers, base_name, Assocs, no_assocs, more_assocs, Assoc, typed_assoc, default_assoc}
 use Rattle.type_table.specs.Types.{CType}
-use Rattle.name_rules.specs.Spellings.{Place, Named}
+use Rattle.name_rules.specs.Spellings.{Place}
 use Rattle.name_rules.specs.Declaring.{own_where}
 use Rattle.type_rules.specs.Tokens.{declared_name, some_declared_name}
 use Rattle.std.specs.Prelude.{◌≤◌, ◌+◌}
@@ -13,7 +13,6 @@ use Rattle.std.proofs.Math.Dec.{ltb}
 use Rattle.std.proofs.lemmas.Bool.{le-ltb, ltb-false}
 use Rattle.c_tree.specs.declared.lexeme.Lexeme.{Lexeme}
 use Rattle.c_tree.specs.Levels.{binary_level, expr_level}
-use Rattle.c_tree.specs.Unit.{is_round_name}
 use Rattle.c_tree.specs.WellFormed.{IsDeclr, IsSomeAbstract, IsSomeDirect, is_named, prefix_level}
 use Rattle.type_table.specs.Types.{pointer}
 use Rattle.name_rules.specs.Scopes.{NameUse, TypeNamed, Use, is_place}
@@ -38,7 +37,8 @@ no_use_at (x ∷ xs) ys it p h = no_use_at xs ys it p h.1
 
 other_way : (p q : Place) → is_place q p ≡ false → is_place p q ≡ true → ⊥
 other_way p q e is = let same : p ≡ q = place_is p q is in
-    let itself : is_place q p ≡ true = subst (λ (r : Place). is_place q r ≡ true) (sym same) (place_itself q) in absurd cc
+    let itself : is_place q p ≡ true = subst (λ (r : Place). is_place q r ≡ true) (sym same) (place_itself q) in
+    absurd cc
 
 use_where : (b : Bool) (x y z : Use) → (b ≡ true → ⊥) → y ≡ z → (if b then x else y) ≡ z
 use_where true x y z g h = absurd (g refl)
@@ -58,7 +58,8 @@ type_where false x o h = h
 
 pub type_there : (xs ys : List TypeNamed) (it : TypeNamed)
     → (t : CType) × (type_named_at (xs ++ it ∷ ys) it.at ≡ Some t)
-type_there [] ys it = (it.type, ap (λ (b : Bool). if b then Some it.type else type_named_at ys it.at) (place_itself it.at))
+type_there [] ys it =
+    (it.type, ap (λ (b : Bool). if b then Some it.type else type_named_at ys it.at) (place_itself it.at))
 type_there (x ∷ xs) ys it = type_where (is_place x.at it.at) x.type _ (type_there xs ys it)
 
 -- an abstract declarator has no name
@@ -86,20 +87,6 @@ mutual
   direct_nameless all (some_declr d) h = nameless all d h.0 h.1
 
 -- a function's declarator has a name
-
--- the declarator of a function with a body declares a name
-pub named_round : (d : Declr) (above : Bool) → is_round_name d above ≡ true → (it : Named) × (declared_name d ≡ Some it)
-named_round (declr_name token name) above e = (record { token = token; name = name }, refl)
-named_round (declr_paren opening attrs d closing) above e = named_round d above e
-named_round (params d opening ps dots closing) above e = named_round d true e
-named_round (pointer star words d) above e = named_round d false e
-named_round (array d opening words size closing) above e = named_round d false e
-named_round (identifiers d opening names closing) above e = absurd cc
-named_round (base_name token) above e = absurd cc
-named_round (abs_pointer star words d) above e = absurd cc
-named_round (abs_paren opening attrs d closing) above e = absurd cc
-named_round (abs_array d opening words size closing) above e = absurd cc
-named_round (abs_params d opening ps dots closing) above e = absurd cc
 
 -- names that have skeletons
 abbrev pub Has : Having → Type 0

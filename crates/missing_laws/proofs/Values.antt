@@ -61,7 +61,8 @@ module _ (w : World) (U V W : ℕ → Type 0) (f : Option Place) (members : Memb
       Agrees (shapes.a_value (cond_type first last (shapes.value (sh e)) (shapes.value (sh e2))))
       (λ (k : Further). a_value (branch (world w k) first last token (x e k) (x e2 k)))
   cond_agrees first last token e e2 g l h = as_value _ (λ k. branch (world w k) first last token (x e k) (x e2 k))
-      (cond_reads first last (shapes.value (sh e)) (shapes.value (sh e2)) (x e) (x e2) (here token) (reads e g) (reads e2 l)
+      (cond_reads first last (shapes.value (sh e)) (shapes.value (sh e2)) (x e) (x e2) (here token)
+      (reads e g) (reads e2 l)
       (λ is. some_own_reads w f token _ (fresh_there (not first && not last) _ h is)))
 
   binary_agrees : (p : Punct) (token : ℕ) (e e2 : Expr) → Good e → Good e2 →
@@ -83,7 +84,8 @@ module _ (w : World) (U V W : ℕ → Type 0) (f : Option Place) (members : Memb
   address_agrees false token e g h = as_value (address (sh e)) (λ k. (v e k).skel) (address_reads (sh e) (v e) g)
 
   prefix_agrees : (token : ℕ) (p : Punct) (e : Expr) → IsPrefix p → Good e →
-      AreFound w (prefix_starts p (comes_by_pointer false e && has_access w.lattices) a token (sh e)) → Good (prefix token p e)
+      AreFound w (prefix_starts p (comes_by_pointer false e && has_access w.lattices) a token (sh e))
+      → Good (prefix token p e)
   prefix_agrees token signs.Ampersand e is g h =
       address_agrees (comes_by_pointer false e && has_access w.lattices) token e g h
   prefix_agrees token signs.Star e is g h =
@@ -220,7 +222,8 @@ module _ (w : World) (U V W : ℕ → Type 0) (f : Option Place) (members : Memb
     agrees (va_copy keyword opening e separator e2 closing) k h = as_value (Some (void [])) (here keyword)
         (void_reads keyword (back w (expr_starts a e2) _ (back w (expr_starts a e) _ h)))
     agrees (offset keyword opening ws d separator name steps closing) k h =
-        fresh_prefix keyword (back w (desigs_starts a steps) _ (back w (some_declr_starts _ _ d) _ (back w (words_starts _ ws) _ h)))
+        fresh_prefix keyword
+        (back w (desigs_starts a steps) _ (back w (some_declr_starts _ _ d) _ (back w (words_starts _ ws) _ h)))
     agrees (complex_part keyword e) k h = agrees e k.1 h
     agrees (label_use token name) k h = typed_agrees token (Some (pointer [] (void []))) h
     agrees (compat keyword opening ws d separator ws2 d2 closing) k h =
@@ -229,7 +232,8 @@ module _ (w : World) (U V W : ℕ → Type 0) (f : Option Place) (members : Memb
     agrees (choose keyword opening e separator e2 separator2 e3 closing) k h =
         let behind = back w (expr_starts (quiet a) e) _ h in
         let last = back w (expr_starts a e2) _ behind in
-        picked_agrees keyword (two e2 e3) (λ j. skels.candidate_of (world w j) e2 ∷ (skels.candidate_of (world w j) e3 ∷ []))
+        picked_agrees keyword (two e2 e3)
+        (λ j. skels.candidate_of (world w j) e2 ∷ (skels.candidate_of (world w j) e3 ∷ []))
         (two_are e2 e3 (agrees e2 k.1.0 (front w (expr_starts a e2) _ behind))
         (agrees e3 k.1.1 (front w (expr_starts a e3) _ last)))
         (back w (expr_starts a e3) _ last)

@@ -1,7 +1,6 @@
 -- What holds at each expression of a form whose constraints count, at names that are declared. The sizes of arrays, the
 -- widths of members, the values of enumerators, case labels, indices of designators, and operands of `sizeof` and
--- `offsetof`
--- give no constraints, and are left out.
+-- `offsetof` give no constraints, and are left out.
 use Rattle.std.specs.Prelude.{◌≡◌, ℕ, List, [], ◌∷◌, Option, None, Some}
 use Rattle.c_tree.specs.Tree.{Expr, operation, cast, prefix, sizeof_value, sizeof_type, extension, index, call, dot, arrow, post, compound, name_use, number_use, char_use, text_use, paren, statement_expr, va_arg, va_start, va_copy, offset, Operator, comma, assign, cond, binary, SomeExpr, no_expr, some_expr, Exprs, no_exprs, more_exprs, SpecWords, no_words, more_words, SpecWord, storage, thread, inline_word, noreturn, qualifier, basic, struct_type, enum_type, typedef_name, attribute, SomeBody, no_body, some_body, StructItems, no_struct_items, more_struct_items, StructItem, member, member_semi, member_assert, MemDeclrs, no_mem_declrs, more_mem_declrs, MemDeclr, named, unnamed, Declr, pointer, declr_name, declr_paren, array, params, abs_pointer, abs_paren, abs_array, abs_params, SomeDeclr, no_declr, some_declr, Params, no_params, more_params, Init, init_value, init_braced, InitList, init_list, InitItems, no_init_items, more_init_items, SomeInit, no_init, some_init, InitDeclrs, no_init_declrs, more_init_declrs, Declaration, declaration, Decl, decl_declaration, decl_assert, BlockItems, no_block_items, more_block_items, BlockItem, block_decl, block_stmt, Stmt, block, expr_stmt, attr_stmt, label, case_stmt, default_stmt, if_stmt, switch_stmt, while_stmt, do_stmt, for_stmt, goto_stmt, continue_stmt, break_stmt, return_stmt, asm_stmt, SomeElse, no_else, some_else, ForStart, start_declaration, start_value, complex_part, label_use, compat, choose, generic, typeof_value, typeof_type, align, auto_word, range_desig, old_desig, case_range, goto_value, block_labels, identifiers, base_name, Assocs, no_assocs, more_assocs, Assoc, typed_assoc, default_assoc}
 use Rattle.c_tree.specs.Unit.{Item, function_item, decl_item, asm_item, semi_item, old_function_item}
@@ -154,7 +153,8 @@ module _ (P : Expr → Type 0) (U V W : ℕ → Type 0) where
         P (offset keyword opening ws d separator name steps closing)
     ExprHas (complex_part keyword e) = P (complex_part keyword e) × ExprHas e
     ExprHas (label_use token name) = P (label_use token name)
-    ExprHas (compat keyword opening ws d separator ws2 d2 closing) = P (compat keyword opening ws d separator ws2 d2 closing)
+    ExprHas (compat keyword opening ws d separator ws2 d2 closing) =
+        P (compat keyword opening ws d separator ws2 d2 closing)
     ExprHas (choose keyword opening e separator e2 separator2 e3 closing) =
         P (choose keyword opening e separator e2 separator2 e3 closing) × (ExprHas e2 × ExprHas e3)
     ExprHas (generic keyword opening e xs closing) = P (generic keyword opening e xs closing) × AssocsHave xs
@@ -286,9 +286,11 @@ module _ (P : Expr → Type 0) (U V W : ℕ → Type 0) where
   -- in an item of a unit
   abbrev pub ItemHas : Item → Type 0
   ItemHas (function_item exts ws d attrs opening items closing) =
-      NamedHas U (declared_name d) × (NamedHas V (declared_name d) × (WordsHave U V W ws × (DeclrHas U V W d × BlockItemsHave items)))
+      NamedHas U (declared_name d)
+      × (NamedHas V (declared_name d) × (WordsHave U V W ws × (DeclrHas U V W d × BlockItemsHave items)))
   ItemHas (old_function_item exts ws d attrs ds opening items closing) =
-      NamedHas U (declared_name d) × (NamedHas V (declared_name d) × (WordsHave U V W ws × (OldDeclrHas ds d × BlockItemsHave items)))
+      NamedHas U (declared_name d)
+      × (NamedHas V (declared_name d) × (WordsHave U V W ws × (OldDeclrHas ds d × BlockItemsHave items)))
   ItemHas (decl_item d) = DeclHas d
   ItemHas (asm_item keyword group semi) = Unit {0}
   ItemHas (semi_item semi) = Unit {0}

@@ -102,7 +102,8 @@ flags_of t all = candidate_flags (has_of_type t all) t all
 abbrev pub AreCandidates : World → ℕ → Expr → Assocs → Type 0
 AreCandidates w token e xs =
     (n : ℕ) → w.candidate (at w token) n
-    ≡ unwrap_or (slice_get (flags_of (value (shape_of w.spelling w.names e)) (associations_of w.spelling w.names xs)) n) false
+    ≡ unwrap_or
+    (slice_get (flags_of (value (shape_of w.spelling w.names e)) (associations_of w.spelling w.names xs)) n) false
 
 -- at an expression itself, its parts aside
 abbrev pub IsSettled : World → Expr → Type 0
@@ -144,7 +145,8 @@ pub record MembersBegin (w : World) : Type 0 where
 
 -- in a form that is not quiet, in this function
 abbrev pub loud : World → Option Place → Around
-loud w f = record { spelling = w.spelling; names = w.names; enclosing = f; is_quiet = false; access = has_access w.lattices }
+loud w f =
+    record { spelling = w.spelling; names = w.names; enclosing = f; is_quiet = false; access = has_access w.lattices }
 
 -- what is of this type, a place or a value
 abbrev pub of_type : Shape → CType → ℕ → Val

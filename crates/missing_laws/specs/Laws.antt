@@ -14,8 +14,7 @@ use Rattle.missing_laws.specs.Finding.{AreFound, FirstIsMet, HasItsSkeleton, Has
 use Rattle.row_rules.specs.Annotations.{has_access}
 
 -- The items of a unit in a world: names and types' names in them are known, their expressions have no faults, and what
--- they
--- declare, what that is linked with and what is fresh in them begins where it is looked for.
+-- they declare, what that is linked with and what is fresh in them begins where it is looked for.
 pub record AreSettled (w : World) (items : List Item) : Type 0 where
   pub clean : items_faults_of w.spelling w.names items ≡ []
   pub settled : ItemsHave (IsSettled w) (TokenBegins w) (FirstIsMet w) (RoleHasSkeleton w) items

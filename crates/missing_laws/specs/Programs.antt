@@ -1,6 +1,5 @@
 -- Programs whose units are well formed and without faults, each of whose declarations, uses of names and skeletons is
--- at a place
--- of its own, and in which what has a skeleton was first declared as what has one.
+-- at a place of its own, and in which what has a skeleton was first declared as what has one.
 use Rattle.std.specs.Prelude.{◌≡◌, List, [], ◌∷◌, Bool}
 use Rattle.c_tree.specs.declared.lexeme.Lexeme.{Lexeme}
 use Rattle.c_tree.specs.Unit.{IsUnit}

@@ -6,6 +6,7 @@ use Rattle.name_lists.specs.Newest.{newest, newest_through, or_outer, innermost,
 use Rattle.name_lists.specs.Cut.{cut, total}
 use Rattle.name_lists.proofs.Lasts.{last_in}
 
+-- one item dropped behind some dropped is one dropped more
 drop_more : {X : Type 0} (xs : List X) (n : ℕ) → drop 1 (drop n xs) ≡ drop (suc n) xs
 drop_more [] zero = refl
 drop_more [] (suc n) = refl
@@ -29,7 +30,8 @@ module _ (counts : List ℕ) (len count : ℕ) (whole : len ≡ length counts) (
       → total (reverse (slice_set counts (len - 1) (count + 1))) ≡ new
   total_bound old new was more =
       let there = last_in counts len count (count + 1) whole some is in
-      let after : total (reverse (slice_set counts (len - 1) (count + 1))) ≡ count + 1 + total there.0 = ap total there.2 in
+      let after : total (reverse (slice_set counts (len - 1) (count + 1))) ≡ count + 1 + total there.0 =
+      ap total there.2 in
       let before : total (reverse counts) ≡ count + total there.0 = ap total there.1 in
       omega (arith, after, before, was, more)
 

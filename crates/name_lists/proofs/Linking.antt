@@ -4,6 +4,7 @@ use Rattle.std.proofs.Common.{List, [], ◌∷◌, ◌++◌, length, reverse, ma
 use Rattle.std.proofs.lemmas.Bool.{cases_eq, cases_lt}
 use Rattle.std.proofs.lemmas.Bool.Decides.{eqb_tells}
 use Rattle.std.proofs.lemmas.List.{reverse-append, length-reverse, reverse-reverse, length-map, get_or_past}
+use Rattle.qual_base.proofs.Lists.{push_last}
 use Rattle.name_lists.specs.declared.list.Entry.{Entry}
 use Rattle.name_lists.specs.Newest.{newest}
 use Rattle.name_lists.specs.Linked.{pair_of, link_of, HaveLinks, AreLinked}
@@ -20,15 +21,12 @@ alike n = elim (eqb_tells n n) [ inl same ↦ same.0 | inr other ↦ absurd (oth
 apart : (a n : ℕ) → n ≢ a → eqb a n ≡ false
 apart a n other = elim (eqb_tells a n) [ inl same ↦ absurd (other (sym same.1)) | inr not ↦ not.0 ]
 
+-- an item put at the end changes no item before it
 get_left : {X : Type 0} (xs : List X) (last : X) (n : ℕ) → n < length xs
     → slice_get (xs ++ last ∷ []) n ≡ slice_get xs n
 get_left [] last n lt = absurd (omega (arith, lt))
 get_left (x ∷ xs) last zero lt = refl
 get_left (x ∷ xs) last (suc n) lt = get_left xs last n (omega (arith, lt))
-
-get_last : {X : Type 0} (xs : List X) (last : X) → slice_get (xs ++ last ∷ []) (length xs) ≡ Some last
-get_last [] last = refl
-get_last (x ∷ xs) last = get_last xs last
 
 module _ {V : Type 0} where
   -- a link is no more than there are entries
@@ -69,11 +67,12 @@ module _ {V : Type 0} where
       by_test true is rest =
           let here : length (reverse es) ≡ at = size ∙ omega (arith, is) in
           ap (λ (o : Option (Entry V)). option_map (λ (e : Entry V). e.value) o)
-          (sym (ap (λ k. slice_get (reverse es ++ e ∷ []) k) (sym here) ∙ get_last (reverse es) e))
+          (sym (ap (λ k. slice_get (reverse es ++ e ∷ []) k) (sym here) ∙ push_last (reverse es) e))
       by_test false is rest =
           let bound = link_bound (map pair_of es) n in
           let within : at < length (reverse es) = subst (λ k. at < k) (sym size) (omega (arith, is, bound)) in
-          rest is ∙ ap (λ (o : Option (Entry V)). option_map (λ (e : Entry V). e.value) o) (sym (get_left (reverse es) e at within))
+          rest is ∙ ap (λ (o : Option (Entry V)). option_map (λ (e : Entry V). e.value) o)
+          (sym (get_left (reverse es) e at within))
 
   pub there : (xs ys : List (Entry V)) (n link : ℕ) (list : List (ℕ × V)) → map pair_of (reverse xs) ≡ list → ys ≡ xs
       → link ≡ link_of list n → (link ≡ 0 → ⊥)
@@ -113,13 +112,16 @@ module _ {V : Type 0} where
     -- one entry more
     pub linked_push : AreLinked (reverse entries) table → ((n : ℕ) → get_or room n 0 ≡ get_or table n 0)
         → name < length room → hides ≡ get_or room name 0 → link ≡ length entries + 1
-        → AreLinked (reverse (entries ++ (record { name = name; value = value; hides = hides }) ∷ [])) (set room name link)
+        → AreLinked (reverse (entries ++ (record { name = name; value = value; hides = hides }) ∷ []))
+        (set room name link)
     linked_push are same within hidden is =
         let e : Entry V = record { name = name; value = value; hides = hides } in
-        let size : length (map pair_of (reverse entries)) ≡ length entries = length-map (reverse entries) pair_of ∙ length-reverse entries in
+        let size : length (map pair_of (reverse entries)) ≡ length entries =
+        length-map (reverse entries) pair_of ∙ length-reverse entries in
         subst (λ es. AreLinked es (set room name link)) (sym (reverse_push entries e)) (record {
           tabled = λ n. elim (cases_eq n name) [
-            | inl one ↦ rw one (rw (alike name) (get_or-set_same room name link 0 within ∙ is ∙ ap (λ k. k + 1) (sym size)))
+            | inl one ↦
+                rw one (rw (alike name) (get_or-set_same room name link 0 within ∙ is ∙ ap (λ k. k + 1) (sym size)))
             | inr other ↦ rw (apart name n other) (get_or-set_other room name n link 0 other ∙ same n ∙ are.tabled n)
           ];
           hidden = (hidden ∙ same name ∙ are.tabled name, are.hidden);
@@ -131,8 +133,10 @@ module _ {V : Type 0} where
         → AreLinked (reverse entries) room
     linked_pop are_all here others =
         let e : Entry V = record { name = name; value = value; hides = hides } in
-        let are : AreLinked (e ∷ reverse entries) table = subst (λ es. AreLinked es table) (reverse_push entries e) are_all in
-        let top : get_or table name 0 ≡ length (map pair_of (reverse entries)) + 1 = are.tabled name ∙ rw (alike name) refl in
+        let are : AreLinked (e ∷ reverse entries) table =
+        subst (λ es. AreLinked es table) (reverse_push entries e) are_all in
+        let top : get_or table name 0 ≡ length (map pair_of (reverse entries)) + 1 =
+        are.tabled name ∙ rw (alike name) refl in
         let within : name < length table = elim (cases_lt name (length table)) [
           | inl lt ↦ lt
           | inr past ↦ let none = get_or_past table name 0 past in absurd (omega (arith, top, none))

@@ -47,7 +47,8 @@ member_faults u s t token name = fault_where (lacks_member s.aggregates t (u.key
 -- neither operand of `[ ]` is a pointer, nor in wider C the left one a vector
 abbrev pub index_faults_at : Bool → Place → Shape → Shape → List Fault
 index_faults_at wide at e e2 =
-    fault_where (is_no_pointer (value e) && is_no_pointer (value e2) && not (wide && is_base_value (value e))) at not_pointer
+    fault_where
+    (is_no_pointer (value e) && is_no_pointer (value e2) && not (wide && is_base_value (value e))) at not_pointer
 
 -- what an item of an initialiser in braces initialises: what its designators name, or without any the next member
 abbrev pub target_of_item : Names → Option CType → Bool → ℕ → Option (Option CType) → Target

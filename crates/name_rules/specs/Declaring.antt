@@ -2,8 +2,8 @@
 --
 -- A declaration of a name that its scope already declares is a further declaration of the same thing. An object that a
 -- block declares `extern` and a function that a block declares are always the file's. What the prelude declares is in
--- every
--- source one with the file's object or function of that name. A use of a name has the type of its first declaration.
+-- every source one with the file's object or function of that name. A use of a name has the type of its first
+-- declaration.
 use Rattle.std.specs.Prelude.{ℕ, nat_eq, Bool, true, false, ◌&&◌, ◌||◌, List, [], ◌∷◌, ◌++◌, length, Option, None, Some, if◌then◌else◌, not}
 use Rattle.c_words.specs.declared.kinds.Keyword.{Keyword}
 use Rattle.c_words.specs.declared.kinds.Keyword.TheVariants as keywords
@@ -170,8 +170,7 @@ declared_here at name role t own s =
     (declaring at role (the_thing (inner_meaning s name) at) t own s)
 
 -- where the object or function of the file that has a name was first declared in this unit, or else in the prelude;
--- here, where that is
--- new
+-- here, where that is new
 abbrev pub linked : ℕ → Place → Names → Place
 linked name at s = or_at (or_place (thing_of at.0 s.things name) (thing_of 0 s.things name)) at
 
@@ -216,8 +215,7 @@ declared_by words at name t s =
     else declared_here at name object_role t (if has_word keywords.Static words then None else s.enclosing) s
 
 -- A struct or union without a tag in the specifiers of a typedef at file scope is known in other sources by the first
--- name
--- that is declared there.
+-- name that is declared there.
 abbrev pub typedef_known : List Keyword → ℕ → Option ℕ → Names → Names
 typedef_known words name None s = s
 typedef_known words name (Some n) s =

@@ -26,7 +26,8 @@ has_identifier key (it ∷ others) = nat_eq it.key key || has_identifier key oth
 -- the number of the identifier of a spelling in a list
 abbrev pub number_of_identifier : ℕ → List OldParameter → Option ℕ
 number_of_identifier key [] = None
-number_of_identifier key (it ∷ others) = if nat_eq it.key key then Some 0 else option_map suc (number_of_identifier key others)
+number_of_identifier key (it ∷ others) =
+    if nat_eq it.key key then Some 0 else option_map suc (number_of_identifier key others)
 
 -- one more identifier of a list; a second one of a spelling is at fault, and is left out
 abbrev pub identified : Spelling → ℕ → ℕ → Olds → Olds
@@ -49,10 +50,10 @@ is_typed None = false
 is_typed (Some it) = is_some it.type
 
 -- a name that is declared behind the list, by the number of its identifier: without one it is at fault, and so is a
--- second
--- declaration of one
+-- second declaration of one
 abbrev pub old_declared : Spelling → Option Place → Named → CType → Option ℕ → Olds → Olds
-old_declared u own it t None olds = record olds { names = with_faults (fault_where true (place u it.token) undeclared) olds.names }
+old_declared u own it t None olds =
+    record olds { names = with_faults (fault_where true (place u it.token) undeclared) olds.names }
 old_declared u own it t (Some i) olds = record {
   list = changed_at olds.list i (typed_first t);
   names = declared_param u (Some it) i own t

@@ -1,12 +1,10 @@
 -- What is one thing in several sources (C99, 6.2.2 and 6.2.7), by what is known behind all units.
 --
 -- An object or function of a source's file scope is internal where a declaration of it there has `static`, and else
--- external.
--- External ones of one name are linked. Definitions of structs and unions at file scope that have one key are linked
--- where several
--- sources have them, and so are their members that have names. The first of what is linked is its link; what is linked
--- with nothing is
--- its own. What the prelude declares is in all sources one by its name already, and so is its own link.
+-- external. External ones of one name are linked. Definitions of structs and unions at file scope that have one key are
+-- linked where several sources have them, and so are their members that have names. The first of what is linked is its
+-- link; what is linked with nothing is its own. What the prelude declares is in all sources one by its name already,
+-- and so is its own link.
 use Rattle.std.specs.Prelude.{ℕ, nat_eq, nat_lt, Bool, false, not, ◌&&◌, ◌||◌, List, [], ◌∷◌, ◌++◌, Option, None, Some, option_and_then, if◌then◌else◌}
 use Rattle.name_rules.specs.Spellings.{Place}
 use Rattle.name_rules.specs.Faults.{Fault, defined_twice, fault_where}

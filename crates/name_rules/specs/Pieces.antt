@@ -26,6 +26,7 @@ bare_ellipsis (Some es) = Some []
 
 -- a type without annotation words, on each node and before each ellipsis
 abbrev mutual
+  -- a type without its annotation words
   pub bare : CType → CType
   bare (base ws) = base []
   bare (void ws) = void []
@@ -33,6 +34,7 @@ abbrev mutual
   bare (pointer ws t) = pointer [] (bare t)
   bare (function ws ps r e) = function [] (all_bare ps) (bare r) (bare_ellipsis e)
 
+  -- types without their annotation words
   pub all_bare : CTypes → CTypes
   all_bare no_types = no_types
   all_bare (more_types t ts) = more_types (bare t) (all_bare ts)

@@ -41,8 +41,7 @@ pub record Body : Type 0 where
   pub known : List Known
 
 -- What a definition at file scope is known by in other sources: its keyword, and its tag, or where it has none the
--- first name of the
--- typedef of the file that it is a word of. Tags and names of typedefs are apart.
+-- first name of the typedef of the file that it is a word of. Tags and names of typedefs are apart.
 pub record StructKey : Type 0 where
   pub kind : TagKind
   pub by_typedef : Bool
@@ -107,8 +106,7 @@ pub record Names : Type 0 where
   pub scopes : List Scope
   pub aggregates : List Aggregate
   -- the objects and functions of file scope and those that blocks declare `extern`, of all units so far, each once, by
-  -- where it was
-  -- first declared in its unit or in the prelude; the newest is first
+  -- where it was first declared in its unit or in the prelude; the newest is first
   pub things : List (ℕ × Place)
   -- the units, and the names of such objects and functions that a declaration there has `static` with
   pub statics : List (ℕ × ℕ)
@@ -147,7 +145,8 @@ thing_named (it ∷ things) name = if nat_eq it.0 name then Some it.1 else thing
 -- the object or function of a name that was first declared in this unit
 abbrev pub thing_of : ℕ → List (ℕ × Place) → ℕ → Option Place
 thing_of unit [] name = None
-thing_of unit (it ∷ things) name = if nat_eq it.0 name && nat_eq it.1.0 unit then Some it.1 else thing_of unit things name
+thing_of unit (it ∷ things) name =
+    if nat_eq it.0 name && nat_eq it.1.0 unit then Some it.1 else thing_of unit things name
 
 -- the first of two places that is there
 abbrev pub or_place : Option Place → Option Place → Option Place
@@ -243,7 +242,8 @@ leave s = record s { scopes = outer_scopes s.scopes }
 abbrev pub bound : ℕ → Meaning → Names → Names
 bound name meaning s =
     record s {
-      scopes = record (innermost s.scopes) { names = (name, meaning) ∷ (innermost s.scopes).names } ∷ outer_scopes s.scopes;
+      scopes =
+          record (innermost s.scopes) { names = (name, meaning) ∷ (innermost s.scopes).names } ∷ outer_scopes s.scopes;
     }
 
 -- a tag means the struct, union or enum of a number in the innermost scope from here on
@@ -251,7 +251,8 @@ abbrev pub tag_bound : TagKind → ℕ → ℕ → Names → Names
 tag_bound kind tag n s =
     record s {
       scopes =
-          record (innermost s.scopes) { tags = record { kind = kind; tag = tag; number = n } ∷ (innermost s.scopes).tags }
+          record (innermost s.scopes)
+          { tags = record { kind = kind; tag = tag; number = n } ∷ (innermost s.scopes).tags }
           ∷ outer_scopes s.scopes;
     }
 
@@ -269,7 +270,8 @@ sized at type s = with_faults (fault_where (nat_lt 4096 (size type)) at type_too
 
 -- one more struct, union or enum, without a body so far
 abbrev pub with_aggregate : TagKind → Place → Names → Names
-with_aggregate kind at s = record s { aggregates = s.aggregates ++ record { kind = kind; at = at; body = None; key = None } ∷ [] }
+with_aggregate kind at s =
+    record s { aggregates = s.aggregates ++ record { kind = kind; at = at; body = None; key = None } ∷ [] }
 
 -- a list in which the entry of a number is changed, as it is where the list is too short
 abbrev pub changed_at : {A : Type 0} → List A → ℕ → (A → A) → List A

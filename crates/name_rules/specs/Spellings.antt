@@ -7,9 +7,8 @@ abbrev pub Place : Type 0
 Place = ℕ × ℕ
 
 -- What is read from the tokens of a unit: whether it is one of wider C; whether the word at a token is an annotation,
--- as a `$` word is, an index
--- word, or a keyword that a lattice names; whether the number at a token is spelled `0`; and the number of a name's
--- spelling, which is the same in all units.
+-- as a `$` word is, an index word, or a keyword that a lattice names; whether the number at a token is spelled `0`; and
+-- the number of a name's spelling, which is the same in all units.
 pub record Spelling : Type 0 where
   pub unit : ℕ
   pub wide : Bool

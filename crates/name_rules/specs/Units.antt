@@ -44,8 +44,7 @@ shared s [] = []
 shared s (it ∷ names) = shared_name s it.0 it.1 ++ shared s names
 
 -- A unit begins with a file scope of its own. What the prelude's file scope has, which is the innermost behind the
--- prelude, is round
--- the file scope of the first source and of all others.
+-- prelude, is round the file scope of the first source and of all others.
 abbrev pub unit_begun : ℕ → Names → Names
 unit_begun unit s =
     record s {

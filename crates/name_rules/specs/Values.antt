@@ -106,8 +106,7 @@ abbrev pub binary_type : Punct → Option CType → Option CType → Option CTyp
 binary_type p a b = if is_additive p then sum_type a b else Some (base [])
 
 -- the type of a condition without a zero, where the first branch points to nothing but `void`, if at all: the second
--- where that
--- points to something else, else the first pointer, else the first
+-- where that points to something else, else the first pointer, else the first
 abbrev pub second_branch : CType → Option CType → Option CType
 second_branch a None = None
 second_branch a (Some b) =

@@ -16,7 +16,8 @@ abbrev is_low_line : ℕ → Bool
 is_low_line c = eqb c 95
 
 no_low_line : (digits : List ℕ) → IsNumeral digits → All (λ c. is_low_line c ≡ false) digits
-no_low_line digits h = All-weaker IsDigit (λ c. is_low_line c ≡ false) (λ c is. ne_eqb c 95 (λ same. omega arith)) digits h.decimal
+no_low_line digits h =
+    All-weaker IsDigit (λ c. is_low_line c ≡ false) (λ c is. ne_eqb c 95 (λ same. omega arith)) digits h.decimal
 
 -- digits and groups behind them, each with a low line before it, are cut at the low lines into these parts
 cut : (digits : List ℕ) (groups : List (List ℕ)) → IsNumeral digits → All IsNumeral groups →
@@ -35,7 +36,8 @@ groups_once [] (y ∷ ys) all each same = absurd cc
 groups_once (x ∷ xs) [] all each same = absurd cc
 groups_once (x ∷ xs) (y ∷ ys) all each same =
     let rest : x ++ flat_map group xs ≡ y ++ flat_map group ys = cc in
-    sym (cut x xs (All-head IsNumeral x xs all) (All-tail IsNumeral x xs all)) ∙ ap (λ (bytes : List ℕ). slice_split is_low_line bytes) rest
+    sym (cut x xs (All-head IsNumeral x xs all) (All-tail IsNumeral x xs all))
+    ∙ ap (λ (bytes : List ℕ). slice_split is_low_line bytes) rest
     ∙ cut y ys (All-head IsNumeral y ys each) (All-tail IsNumeral y ys each)
 
 -- two readings of the bytes of an index word give the same list of numbers
@@ -43,7 +45,8 @@ words_once : (bytes one other : List ℕ) → IsIndexWord bytes one → IsIndexW
 words_once bytes one other h k =
     let both : 36 ∷ flat_map group h.groups ≡ 36 ∷ flat_map group k.groups = sym h.spelled ∙ k.spelled in
     let rest : flat_map group h.groups ≡ flat_map group k.groups = cc in
-    h.numbers_are ∙ ap (λ (groups : List (List ℕ)). map number_of groups) (groups_once h.groups k.groups h.numerals k.numerals rest)
+    h.numbers_are
+    ∙ ap (λ (groups : List (List ℕ)). map number_of groups) (groups_once h.groups k.groups h.numerals k.numerals rest)
     ∙ sym k.numbers_are
 
 -- ascending lists with the same members
@@ -52,7 +55,9 @@ words_once bytes one other h k =
 above : (n : ℕ) (ns : List ℕ) → AreAscending (n ∷ ns) → (m k : ℕ) → k < length ns → slice_index_or ns k m ≡ m → n < m
 above n [] up m k less is = absurd (omega (arith, less))
 above n (x ∷ xs) up m zero less is = omega (arith, up.0, is)
-above n (x ∷ xs) up m (suc k) less is = let more = above x xs up.1 m k (omega (arith, less)) is in omega (arith, more, up.0)
+above n (x ∷ xs) up m (suc k) less is =
+    let more = above x xs up.1 m k (omega (arith, less)) is in
+    omega (arith, more, up.0)
 
 behind_up : (n : ℕ) (ns : List ℕ) → AreAscending (n ∷ ns) → AreAscending ns
 behind_up n [] up = tt

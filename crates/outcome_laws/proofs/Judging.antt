@@ -19,8 +19,10 @@ module _ (sys : System) (lattice : ℕ) (order : Order) (ordered : IsOrder order
 
   listed_once : (a b : List Listing) → IsListed sys lattice order var a → IsListed sys lattice order var b → a ≡ b
   listed_once _ _ (AtBottom x bottom h) (AtBottom y floor k) = refl
-  listed_once _ _ (AtBottom x bottom h) (Above y other k) = absurd (other (subst (λ (e : ℕ). IsBottom order e) (printed_once x y h k) bottom))
-  listed_once _ _ (Above x other h) (AtBottom y floor k) = absurd (other (subst (λ (e : ℕ). IsBottom order e) (printed_once y x k h) floor))
+  listed_once _ _ (AtBottom x bottom h) (Above y other k) =
+      absurd (other (subst (λ (e : ℕ). IsBottom order e) (printed_once x y h k) bottom))
+  listed_once _ _ (Above x other h) (AtBottom y floor k) =
+      absurd (other (subst (λ (e : ℕ). IsBottom order e) (printed_once y x k h) floor))
   listed_once _ _ (Above x other h) (Above y above k) =
       ap (λ (e : ℕ). record { var = var; lattice = lattice; elem = e } ∷ []) (printed_once x y h k)
 
@@ -29,7 +31,9 @@ are_orders : (lattices : List LatticeView) → AreLattices lattices → (n : ℕ
     → slice_get (orders_of lattices) n ≡ Some order →
     IsOrder order
 are_orders [] h n order there = absurd cc
-are_orders (l ∷ ls) h zero order there = let is : l.order ≡ order = cc in subst (λ (o : Order). IsOrder o) is (h zero l refl).ordered
+are_orders (l ∷ ls) h zero order there =
+    let is : l.order ≡ order = cc in
+    subst (λ (o : Order). IsOrder o) is (h zero l refl).ordered
 are_orders (l ∷ ls) h (suc n) order there = are_orders ls (λ m view is. h (suc m) view is) n order there
 
 no_push : {X : Type 0} (xs : List X) (x : X) → [] ≡ xs ++ x ∷ [] → ⊥
@@ -44,13 +48,15 @@ module _ (lattices : List LatticeView) (sys : System) (are : AreLattices lattice
   var_listings_once var _ _ _ _ e NoLattice NoLattice = refl
   var_listings_once var _ _ _ _ e NoLattice (NextLattice l order before here there rest is) = absurd (omega (arith, e))
   var_listings_once var _ _ _ _ e (NextLattice l order before here there rest is) NoLattice = absurd (omega (arith, e))
-  var_listings_once var _ _ _ _ e (NextLattice l order before here there rest is) (NextLattice k other ahead now found more so) =
+  var_listings_once var _ _ _ _ e (NextLattice l order before here there rest is)
+      (NextLattice k other ahead now found more so) =
       let same : l ≡ k = omega (arith, e) in
       let both : Some order ≡ Some other = sym there ∙ ap (λ (n : ℕ). slice_get (orders_of lattices) n) same ∙ found in
       let order_is : order ≡ other = cc in
       let front : before ≡ ahead = var_listings_once var l k before ahead same rest more in
       let behind : here ≡ now = listed_once sys l order (are_orders lattices are l order there) var here now is
-      (subst (λ (o : Order). IsListed sys l o var now) (sym order_is) (subst (λ (n : ℕ). IsListed sys n other var now) (sym same) so)) in
+      (subst (λ (o : Order). IsListed sys l o var now) (sym order_is)
+      (subst (λ (n : ℕ). IsListed sys n other var now) (sym same) so)) in
       λ i. front i ++ behind i
 
   listings_once : (vars others : List ℕ) (a b : List Listing) → vars ≡ others → Listings lattices sys vars a
@@ -69,7 +75,8 @@ module _ (scene : Scene) (sys : System) where
   accepted_once : AreLattices scene.lattices
       → (a b : List ℕ) (h : IsAcceptedReport scene sys a) (k : IsAcceptedReport scene sys b) →
       h.listings ≡ k.listings
-  accepted_once are a b h k = listings_once scene.lattices sys are scene.listed scene.listed h.listings k.listings refl h.listed k.listed
+  accepted_once are a b h k =
+      listings_once scene.lattices sys are scene.listed scene.listed h.listings k.listings refl h.listed k.listed
 
   count_once : (n m a b : ℕ) → n ≡ m → ErrorCount scene sys n a → ErrorCount scene sys m b → a ≡ b
   count_once _ _ _ _ e NoneBelow NoneBelow = refl
@@ -77,7 +84,8 @@ module _ (scene : Scene) (sys : System) where
   count_once _ _ _ _ e NoneBelow (OneExceeds n count rest over) = absurd (omega (arith, e))
   count_once _ _ _ _ e (OneHolds n count rest no_over) NoneBelow = absurd (omega (arith, e))
   count_once _ _ _ _ e (OneExceeds n count rest over) NoneBelow = absurd (omega (arith, e))
-  count_once _ _ _ _ e (OneHolds n count rest no_over) (OneHolds m other more never) = count_once n m count other (omega (arith, e)) rest more
+  count_once _ _ _ _ e (OneHolds n count rest no_over) (OneHolds m other more never) =
+      count_once n m count other (omega (arith, e)) rest more
   count_once _ _ _ _ e (OneHolds n count rest no_over) (OneExceeds m other more over) =
       let same : n ≡ m = omega (arith, e) in absurd (no_over (subst (λ (x : ℕ). IsOver scene sys x) (sym same) over))
   count_once _ _ _ _ e (OneExceeds n count rest over) (OneHolds m other more never) =

@@ -42,16 +42,19 @@ module _ (entries : List Entry) (pairs : List Pair) where
       Refuses entries pairs fault → ⊥
   built_not_refused lattice TooMany h reason refused = let few = h.fit.known.named.few in omega (arith, few, refused)
   built_not_refused lattice (Repeated name) h reason refused =
-      h.fit.known.named.distinct refused.first.earlier.0 refused.at refused.first.earlier.1 refused.first.within refused.first.earlier.2
+      h.fit.known.named.distinct refused.first.earlier.0 refused.at refused.first.earlier.1 refused.first.within
+      refused.first.earlier.2
   built_not_refused lattice (UnknownName name) h reason refused =
       let e : None ≡ Some name = sym h.fit.known.known ∙ refused.first in cc
-  built_not_refused lattice (LevelMix one other) h reason refused = refused.first.other (h.fit.level refused.at refused.first.within)
+  built_not_refused lattice (LevelMix one other) h reason refused =
+      refused.first.other (h.fit.level refused.at refused.first.within)
   built_not_refused lattice (Cycle one other) h reason refused =
       let e : refused.a ≡ refused.b = h.bounded.ordered.apart refused.a refused.b
       (leq_moves refused.order lattice.order refused.closure h.closure refused.a refused.b refused.first.has.0)
       (leq_moves refused.order lattice.order refused.closure h.closure refused.b refused.a refused.first.has.1) in
       omega (arith, e, refused.first.apart)
-  built_not_refused lattice (NotALattice one other) h reason refused = by (subst (λ (o : Order). LacksBound o refused.a refused.b)
+  built_not_refused lattice (NotALattice one other) h reason refused =
+      by (subst (λ (o : Order). LacksBound o refused.a refused.b)
       (order_one refused.order lattice.order refused.closure h.closure) refused.first.has)
     where
       below_a : refused.a < size lattice.order
@@ -61,8 +64,12 @@ module _ (entries : List Entry) (pairs : List Pair) where
       below_b = omega (arith, h.closure.elements, refused.first.within)
 
       by : LacksBound lattice.order refused.a refused.b → ⊥
-      by (inl lacks) = lacks (h.bounded.joins refused.a refused.b below_a below_b).0 (h.bounded.joins refused.a refused.b below_a below_b).1
-      by (inr lacks) = lacks (h.bounded.meets refused.a refused.b below_a below_b).0 (h.bounded.meets refused.a refused.b below_a below_b).1
+      by (inl lacks) =
+          lacks (h.bounded.joins refused.a refused.b below_a below_b).0
+          (h.bounded.joins refused.a refused.b below_a below_b).1
+      by (inr lacks) =
+          lacks (h.bounded.meets refused.a refused.b below_a below_b).0
+          (h.bounded.meets refused.a refused.b below_a below_b).1
   built_not_refused lattice NoMemory h reason refused = reason refl
 
 -- a block builds one lattice
@@ -80,7 +87,8 @@ all_built_one [] [] (y ∷ b) h k = absurd k
 all_built_one [] (x ∷ a) b h k = absurd h
 all_built_one (block ∷ blocks) [] b h k = absurd h
 all_built_one (block ∷ blocks) (x ∷ a) [] h k = absurd k
-all_built_one (block ∷ blocks) (x ∷ a) (y ∷ b) h k = λ i. built_one block x y h.0 k.0 i ∷ all_built_one blocks a b h.1 k.1 i
+all_built_one (block ∷ blocks) (x ∷ a) (y ∷ b) h k =
+    λ i. built_one block x y h.0 k.0 i ∷ all_built_one blocks a b h.1 k.1 i
 
 -- each block of a file whose blocks are all built has a lattice of its own
 built_at : (blocks : List BlockView) (lattices : List LatticeView) (at : ℕ) (block : BlockView)
@@ -103,7 +111,8 @@ get_within (x ∷ xs) (suc at) l e = let under : at < length xs = get_within xs 
 reads_once : (wide : Bool) (bytes : List ℕ) (a b : List LatticeView) → Reads wide bytes a → Reads wide bytes b → a ≡ b
 reads_once wide bytes a b h k =
     all_built_one h.blocks a b h.built
-    (subst (λ (blocks : List BlockView). AreAllBuilt blocks b) (one_reading wide k.blocks h.blocks bytes k.text h.text) k.built)
+    (subst (λ (blocks : List BlockView). AreAllBuilt blocks b)
+    (one_reading wide k.blocks h.blocks bytes k.text h.text) k.built)
 
 -- where all blocks are built, none is the first that is refused
 no_refused_block : (blocks : List BlockView) (lattices : List LatticeView) (number : ℕ) (reason : LatticeFault)
@@ -111,7 +120,8 @@ no_refused_block : (blocks : List BlockView) (lattices : List LatticeView) (numb
     IsFirstRefused blocks number reason → ⊥
 no_refused_block blocks lattices number reason h refused =
     let built = built_at blocks lattices refused.at refused.block h refused.there in
-    built_not_refused refused.block.entries refused.block.pairs built.0 reason built.1.built refused.reason refused.refused
+    built_not_refused refused.block.entries refused.block.pairs built.0 reason built.1.built refused.reason
+    refused.refused
 
 -- bytes that read as lattices have no fault but want of memory
 no_fault : (wide : Bool) (bytes : List ℕ) (lattices : List LatticeView) → Reads wide bytes lattices
@@ -121,9 +131,11 @@ no_fault wide bytes lattices h (Block number reason) other refused =
     no_refused_block h.blocks lattices number reason h.built
     (subst (λ (blocks : List BlockView). IsFirstRefused blocks number reason)
     (one_reading wide refused.blocks h.blocks bytes refused.text h.text) refused.first)
-no_fault wide bytes lattices h (Grammar line column) other refused = bad_no_text wide bytes refused.place h.blocks refused.first h.text
+no_fault wide bytes lattices h (Grammar line column) other refused =
+    bad_no_text wide bytes refused.place h.blocks refused.first h.text
 no_fault wide bytes lattices h TooManyLattices other refused =
-    let e : length refused.blocks ≡ length h.blocks = ap length (one_reading wide refused.blocks h.blocks bytes refused.text h.text) in
+    let e : length refused.blocks ≡ length h.blocks =
+    ap length (one_reading wide refused.blocks h.blocks bytes refused.text h.text) in
     omega (arith, e, h.few, refused.many)
 no_fault wide bytes lattices h (SharedName name) other refused =
     let blocks : refused.blocks ≡ h.blocks = one_reading wide refused.blocks h.blocks bytes refused.text h.text in
@@ -131,8 +143,10 @@ no_fault wide bytes lattices h (SharedName name) other refused =
     (subst (λ (bs : List BlockView). AreAllBuilt bs refused.lattices) blocks refused.built) h.built in
     let apart = subst (λ (ls : List LatticeView). AreApart ls (length ls)) (sym e) h.apart in
     apart refused.first.at refused.first.here.elem name
-    (get_within refused.lattices refused.first.at refused.first.here.shared.lattice refused.first.here.shared.there) refused.first.here.shared
+    (get_within refused.lattices refused.first.at refused.first.here.shared.lattice refused.first.here.shared.there)
+    refused.first.here.shared
 no_fault wide bytes lattices h OutOfMemory other refused = other refl
 
 pub one_reading_of_lattices : OneReadingOfLattices
-one_reading_of_lattices wide bytes lattices h = record { only = λ others k. reads_once wide bytes lattices others h k; sound = no_fault wide bytes lattices h }
+one_reading_of_lattices wide bytes lattices h =
+    record { only = λ others k. reads_once wide bytes lattices others h k; sound = no_fault wide bytes lattices h }

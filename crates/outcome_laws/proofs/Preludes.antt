@@ -7,6 +7,8 @@ use Rattle.c_lexer.specs.Tokens.{Lexed, text_of}
 use Rattle.c_reading.specs.UnitLaws.{OneUnitAtMost}
 use Rattle.type_rules.specs.Program.{HasNoFault, faults_of}
 use Rattle.c_types.specs.Sources.{UnitRead, sources_in}
+use Rattle.reader_base.specs.declared.fault.ReadError.TheVariants.{Fault as Refused}
+use Rattle.unit_shapes.specs.Faults.{fault_of}
 use Rattle.index_words.specs.Marks.{IndexMark, index_in, numbers_at}
 use Rattle.cq_prelude.specs.Preludes as preludes
 use Rattle.cq_prelude.specs.Preludes.{IsPrelude, IsFaultOf, Parses}
@@ -17,7 +19,7 @@ use Rattle.outcome_laws.specs.Readings.{Lexes}
 use Rattle.outcome_laws.specs.Preludes.{OnePrelude}
 use Rattle.outcome_laws.proofs.Tokens.{one_list_of_tokens}
 use Rattle.outcome_laws.proofs.Indices.{one_set_of_indices}
-use Rattle.outcome_laws.proofs.Units.{unit_once, unit_not_refused, no_first_fault}
+use Rattle.outcome_laws.proofs.Units.{unit_once, unit_not_refused, none_first}
 
 -- tokens by words that mean the same as other words are tokens by the other words, of unit 0
 lexes_by : (wide : Bool) (words meanings : Meanings) → MeansTheSame words meanings → (bytes : List ℕ) (lexed : Lexed)
@@ -40,7 +42,8 @@ lexes_by wide words meanings mean bytes lexed h = record {
 module _ (lexed : Lexed) (marks said : List IndexMark) (are : AreMarks lexed marks) (also : AreMarks lexed said) where
   numbers_at_index : (token : ℕ) → IsIndex lexed token → numbers_at marks token ≡ numbers_at said token
   numbers_at_index token is =
-      one_set_of_indices (text_of lexed token) (numbers_at marks token) (numbers_at said token) (are.said token is) (also.said token is)
+      one_set_of_indices (text_of lexed token) (numbers_at marks token) (numbers_at said token) (are.said token is)
+      (also.said token is)
 
   numbers_once : (token : ℕ) → numbers_at marks token ≡ numbers_at said token
   numbers_once token = by (numbers_at marks token) (numbers_at said token) refl refl
@@ -49,9 +52,11 @@ module _ (lexed : Lexed) (marks said : List IndexMark) (are : AreMarks lexed mar
           → numbers_at marks token ≡ numbers_at said token
       by [] [] e f = e ∙ sym f
       by [] (y ∷ ys) e f =
-          numbers_at_index token (also.only token y (subst (λ (ns : List ℕ). Contains ns y) (sym f) (zero, omega arith, refl)))
+          numbers_at_index token
+          (also.only token y (subst (λ (ns : List ℕ). Contains ns y) (sym f) (zero, omega arith, refl)))
       by (x ∷ xs) b e f =
-          numbers_at_index token (are.only token x (subst (λ (ns : List ℕ). Contains ns x) (sym e) (zero, omega arith, refl)))
+          numbers_at_index token
+          (are.only token x (subst (λ (ns : List ℕ). Contains ns x) (sym e) (zero, omega arith, refl)))
 
   index_once : (p : ℕ × ℕ) → index_in marks p ≡ index_in said p
   index_once p = ap (λ (ns : List ℕ). if nat_eq p.0 0 then ns else []) (numbers_once p.1)
@@ -68,11 +73,12 @@ module _ (one_unit : OneUnitAtMost) (wide : Bool) (meanings : Meanings) (bytes :
       MeansTheSame others meanings → IsPrelude wide words bytes unit marks → (fault : PreludeFault) → fault ≢ NoMemory →
       IsFaultOf wide others bytes fault → ⊥
   prelude_sound words others unit marks mean same h (Lex fault) reason refused =
-      (one_list_of_tokens 0 wide meanings bytes unit.lexed (lexes_by wide words meanings mean bytes unit.lexed h.parses.lexes)).sound others fault same
-      refused.1 refused.0
-  prelude_sound words others unit marks mean same h (Parse fault spot) reason refused =
-      unit_not_refused one_unit 0 wide meanings bytes unit (lexes_by wide words meanings mean bytes unit.lexed h.parses.lexes) h.parses.formed
-      refused.0 fault (lexes_by wide others meanings same bytes refused.0 refused.1) refused.3
+      (one_list_of_tokens 0 wide meanings bytes unit.lexed
+      (lexes_by wide words meanings mean bytes unit.lexed h.parses.lexes)).sound others fault same refused.1 refused.0
+  prelude_sound words others unit marks mean same h (Parse rule spot) reason refused =
+      unit_not_refused one_unit 0 wide meanings bytes unit
+      (lexes_by wide words meanings mean bytes unit.lexed h.parses.lexes) h.parses.formed refused.0
+      (Refused rule refused.1) (lexes_by wide others meanings same bytes refused.0 refused.2) refused.3
   prelude_sound words others unit marks mean same h (HasBody spot) reason refused =
       let one : unit ≡ refused.0 = parses_once words others unit refused.0 mean same h.parses refused.2 in
       subst (λ (it : UnitRead). NoneFails it.lexed it.items) one h.rules has_body refused.1 refused.3.fails
@@ -81,16 +87,18 @@ module _ (one_unit : OneUnitAtMost) (wide : Bool) (meanings : Meanings) (bytes :
       subst (λ (it : UnitRead). NoneFails it.lexed it.items) one h.rules bad_index refused.1 refused.3.fails
   prelude_sound words others unit marks mean same h (Shape fault spot) reason refused =
       let one : unit ≡ refused.0 = parses_once words others unit refused.0 mean same h.parses refused.1 in
-      no_first_fault fault (faults_of (sources_in (refused.0 ∷ []))) refused.3
-      (subst (λ (it : UnitRead). HasNoFault (sources_in (it ∷ []))) one h.shaped) refused.4
+      none_first (fault_of fault) (faults_of (sources_in (refused.0 ∷ [])))
+      (subst (λ (it : UnitRead). HasNoFault (sources_in (it ∷ []))) one h.shaped) refused.3
   prelude_sound words others unit marks mean same h NoMemory reason refused = reason refl
 
 -- bytes that are a prelude are one unit with one list of index numbers, and have no fault
 pub one_prelude : OneUnitAtMost → OnePrelude
 one_prelude one_unit wide words meanings bytes unit marks mean h = record {
-  only = λ others other said same k. parses_once one_unit wide meanings bytes words others unit other mean same h.parses k.parses;
+  only = λ others other said same k.
+      parses_once one_unit wide meanings bytes words others unit other mean same h.parses k.parses;
   numbers = λ others other said same k.
       index_once unit.lexed marks said h.marks_are (subst (λ (it : UnitRead). AreMarks it.lexed said)
       (sym (parses_once one_unit wide meanings bytes words others unit other mean same h.parses k.parses)) k.marks_are);
-  sound = λ others fault same reason refused. prelude_sound one_unit wide meanings bytes words others unit marks mean same h fault reason refused;
+  sound = λ others fault same reason refused.
+      prelude_sound one_unit wide meanings bytes words others unit marks mean same h fault reason refused;
 }

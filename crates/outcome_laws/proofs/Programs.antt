@@ -39,4 +39,5 @@ module _ (named : FileNames) (lattices : List LatticeView) where
       → units ≡ others →
       judging_of named lattices marks units ≡ judging_of named lattices said others
   judged_same marks said units others same e =
-      ap (judging_in units) (program_same marks said units same) ∙ ap (λ (us : List UnitRead). judging_of named lattices said us) e
+      ap (judging_in units) (program_same marks said units same)
+      ∙ ap (λ (us : List UnitRead). judging_of named lattices said us) e

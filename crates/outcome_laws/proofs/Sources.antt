@@ -25,15 +25,17 @@ module _ (one_unit : OneUnitAtMost) (wide : Bool) (lattices : List LatticeView) 
     source_once : (a b : UnitRead) → SourceParses wide lattices number bytes a
         → SourceParses wide lattices number bytes b → a ≡ b
     source_once a b h k =
-        unit_once one_unit number wide (words_of lattices) bytes a b (lexes a.lexed h.lexes) h.formed (lexes b.lexed k.lexes) k.formed
+        unit_once one_unit number wide (words_of lattices) bytes a b (lexes a.lexed h.lexes) h.formed
+        (lexes b.lexed k.lexes) k.formed
 
     never_refused : (file text : List ℕ) (it : UnitRead) → SourceParses wide lattices number bytes it
         → SourceRefused wide lattices number file bytes text → ⊥
     never_refused file _ it h (Unspelled fault fails) =
-        (one_list_of_tokens number wide (words_of lattices) bytes it.lexed (lexes it.lexed h.lexes)).sound fails.words fault fails.mean
-        fails.reason fails.refused
+        (one_list_of_tokens number wide (words_of lattices) bytes it.lexed
+        (lexes it.lexed h.lexes)).sound fails.words fault fails.mean fails.reason fails.refused
     never_refused file _ it h (Unparsed lexed fault spelled reason refused) =
-        unit_not_refused one_unit number wide (words_of lattices) bytes it (lexes it.lexed h.lexes) h.formed lexed fault (lexes lexed spelled) refused
+        unit_not_refused one_unit number wide (words_of lattices) bytes it (lexes it.lexed h.lexes) h.formed lexed fault
+        (lexes lexed spelled) refused
 
   -- all of them
 
@@ -44,21 +46,26 @@ module _ (one_unit : OneUnitAtMost) (wide : Bool) (lattices : List LatticeView) 
       → SourcesParse wide lattices number left sources units
       → SourcesParse wide lattices number left sources others → units ≡ others
   sources_once _ _ _ _ _ (NoSource number left) (NoSource _ _) = refl
-  sources_once _ _ _ _ _ (OneSource number left source more unit units within h rest) (OneSource _ _ _ _ other others fits k also) =
+  sources_once _ _ _ _ _ (OneSource number left source more unit units within h rest)
+      (OneSource _ _ _ _ other others fits k also) =
       one_more unit other units others (source_once number source.1 unit other h k)
       (sources_once (number + 1) (left - length source.1) more units others rest also)
 
   pub never_fail : (number left : ℕ) (sources : List (List ℕ × List ℕ)) (units : List UnitRead) (text : List ℕ)
       → SourcesParse wide lattices number left sources units → SourcesFail wide lattices number left sources text → ⊥
   never_fail _ _ _ _ text (NoSource number left) fails = elim fails [ ]
-  never_fail _ _ _ _ _ (OneSource number left source more unit units within h rest) (TooLarge _ _ _ _ over) = omega (arith, within, over)
-  never_fail _ _ _ _ _ (OneSource number left source more unit units within h rest) (Refused _ _ _ _ text fits refused) =
+  never_fail _ _ _ _ _ (OneSource number left source more unit units within h rest) (TooLarge _ _ _ _ over) =
+      omega (arith, within, over)
+  never_fail _ _ _ _ _ (OneSource number left source more unit units within h rest)
+      (Refused _ _ _ _ text fits refused) =
       never_refused number source.1 source.0 text unit h refused
-  never_fail _ _ _ _ _ (OneSource number left source more unit units within h rest) (Later _ _ _ _ other text fits k fails) =
+  never_fail _ _ _ _ _ (OneSource number left source more unit units within h rest)
+      (Later _ _ _ _ other text fits k fails) =
       never_fail (number + 1) (left - length source.1) more units text rest fails
 
 -- their program
-module _ (named : FileNames) (lattices : List LatticeView) (marks said : List IndexMark) (same : SameIndices marks said) (units others : List UnitRead)
+module _ (named : FileNames) (lattices : List LatticeView) (marks said : List IndexMark) (same : SameIndices marks said)
+    (units others : List UnitRead)
     (are : units ≡ others) (h : AreCounted named lattices marks units) where
   judged_once : judging_of named lattices marks units ≡ judging_of named lattices said others
   judged_once = judged_same named lattices marks said units others same are

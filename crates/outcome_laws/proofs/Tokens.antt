@@ -62,8 +62,10 @@ module _ (unit : ℕ) (wide : Bool) (meanings : Meanings) (bytes : List ℕ) whe
   spells : (lexed : Lexed) → Lexes unit wide meanings bytes lexed
       → (names : List (List ℕ)) × Spells unit wide meanings bytes lexed.tokens names lexed.marks
   spells lexed h =
-      let spelled = rw (h.unit_is, h.dialect, h.bytes_are) at h.marks.spelled in
-      (spelled.0, spelled_by unit wide h.marks.words meanings h.marks.mean bytes lexed.tokens spelled.0 lexed.marks spelled.1)
+      let spelled = rw (h.unit_is, h.dialect, h.bytes_are) at h.marks.spelled in (
+        spelled.0,
+        spelled_by unit wide h.marks.words meanings h.marks.mean bytes lexed.tokens spelled.0 lexed.marks spelled.1,
+      )
 
   lexes_once : (a b : Lexed) → Lexes unit wide meanings bytes a → Lexes unit wide meanings bytes b → a ≡ b
   lexes_once a b h k =
@@ -71,11 +73,14 @@ module _ (unit : ℕ) (wide : Bool) (meanings : Meanings) (bytes : List ℕ) whe
       let other = spells b k in
       let same = spells-once unit wide meanings bytes a.tokens b.tokens one.0 other.0 a.marks b.marks one.1 other.1 in
       let constant : a.constant ≡ b.constant =
-      h.marks.keywords.constant ∙ h.marks.mean (codes "const") ∙ sym (k.marks.mean (codes "const")) ∙ sym k.marks.keywords.constant in
+      h.marks.keywords.constant ∙ h.marks.mean (codes "const") ∙ sym (k.marks.mean (codes "const"))
+      ∙ sym k.marks.keywords.constant in
       let volatile : a.volatile ≡ b.volatile =
-      h.marks.keywords.volatile ∙ h.marks.mean (codes "volatile") ∙ sym (k.marks.mean (codes "volatile")) ∙ sym k.marks.keywords.volatile in
+      h.marks.keywords.volatile ∙ h.marks.mean (codes "volatile") ∙ sym (k.marks.mean (codes "volatile"))
+      ∙ sym k.marks.keywords.volatile in
       let restrict : a.restrict ≡ b.restrict =
-      h.marks.keywords.restrict ∙ h.marks.mean (codes "restrict") ∙ sym (k.marks.mean (codes "restrict")) ∙ sym k.marks.keywords.restrict in
+      h.marks.keywords.restrict ∙ h.marks.mean (codes "restrict") ∙ sym (k.marks.mean (codes "restrict"))
+      ∙ sym k.marks.keywords.restrict in
       λ i. record {
         unit = (h.unit_is ∙ sym k.unit_is) i;
         wide = (h.dialect ∙ sym k.dialect) i;

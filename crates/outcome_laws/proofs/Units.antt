@@ -7,7 +7,7 @@ use Rattle.c_units.specs.Units.{IsWellFormed}
 use Rattle.c_reading.specs.UnitLaws.{OneUnitAtMost}
 use Rattle.c_parser.specs.Parsing.{lexemes_of}
 use Rattle.c_parser.specs.Refusing.{IsUnitRefusal}
-use Rattle.c_parser.specs.declared.parsing.ParseFault.{ParseFault}
+use Rattle.reader_base.specs.declared.fault.ReadError.{ReadError}
 use Rattle.c_parser.proofs.Numbering.{numbered_from_zero}
 use Rattle.name_rules.specs.Faults.{Fault, IsFirst}
 use Rattle.unit_types.specs.declared.fault.ShapeFault.{ShapeFault}
@@ -23,30 +23,26 @@ module _ (one_unit : OneUnitAtMost) (number : ℕ) (wide : Bool) (meanings : Mea
       Lexes number wide meanings bytes b.lexed → IsWellFormed b.lexed.wide (lexemes_of b.lexed) b.items → a ≡ b
   unit_once a b h formed k also =
       let lexed : a.lexed ≡ b.lexed = (one_list_of_tokens number wide meanings bytes a.lexed h).only b.lexed k in
-      let items : a.items ≡ b.items = one_unit a.lexed.wide (lexemes_of a.lexed) (numbered_from_zero a.lexed.tokens) a.items b.items formed
+      let items : a.items ≡ b.items =
+      one_unit a.lexed.wide (lexemes_of a.lexed) (numbered_from_zero a.lexed.tokens) a.items b.items formed
       (subst (λ (l : Lexed). IsWellFormed l.wide (lexemes_of l) b.items) (sym lexed) also) in
       λ i. record { lexed = lexed i; items = items i }
 
   pub unit_not_refused : (a : UnitRead) → Lexes number wide meanings bytes a.lexed
       → IsWellFormed a.lexed.wide (lexemes_of a.lexed) a.items →
-      (lexed : Lexed) (fault : ParseFault) → Lexes number wide meanings bytes lexed → IsUnitRefusal lexed fault → ⊥
+      (lexed : Lexed) (fault : ReadError) → Lexes number wide meanings bytes lexed → IsUnitRefusal lexed fault → ⊥
   unit_not_refused a h formed lexed fault k refused =
       refused.none a.items (subst (λ (l : Lexed). IsWellFormed l.wide (lexemes_of l) a.items)
       ((one_list_of_tokens number wide meanings bytes a.lexed h).only lexed k) formed)
 
-none_first : (fault : Fault) (all : List Fault) → all ≡ [] → IsFirst fault all → ⊥
-none_first fault all is h = let has = subst (λ (faults : List Fault). Contains faults fault) is h.there in omega (arith, has.1)
+-- where there are no faults, none is the first
+pub none_first : (fault : Fault) (all : List Fault) → all ≡ [] → IsFirst fault all → ⊥
+none_first fault all is h =
+    let has = subst (λ (faults : List Fault). Contains faults fault) is h.there in
+    omega (arith, has.1)
 
 -- where there are no faults, no fault but want of memory is the first
 pub no_first_fault : (fault : ShapeFault) (all : List Fault) → fault ≢ shapes.NoMemory → all ≡ []
     → IsFirstUnlessMemory fault all → ⊥
-no_first_fault (shapes.Undeclared unit token) all reason none h = none_first _ all none h
-no_first_fault (shapes.NotPointer unit token) all reason none h = none_first _ all none h
-no_first_fault (shapes.NotFunction unit token) all reason none h = none_first _ all none h
-no_first_fault (shapes.NoMember unit token) all reason none h = none_first _ all none h
-no_first_fault (shapes.ArgCount unit token) all reason none h = none_first _ all none h
-no_first_fault (shapes.NotPlace unit token) all reason none h = none_first _ all none h
-no_first_fault (shapes.DefinedTwice unit token) all reason none h = none_first _ all none h
-no_first_fault (shapes.TypeTooLarge unit token) all reason none h = none_first _ all none h
-no_first_fault (shapes.NoType unit token) all reason none h = none_first _ all none h
+no_first_fault (shapes.Found it) all reason none h = none_first _ all none h
 no_first_fault shapes.NoMemory all reason none h = reason refl

@@ -9,13 +9,15 @@ use Rattle.annotate.specs.Texts.{Scene}
 use Rattle.annotate.specs.Reports.{IsJudgedWith, ErrorCount}
 
 -- It is accepted or rejected and not both, and the text of what is accepted is one.
-pub record JudgementIsOne (scene : Scene) (sys : System) (unit : Option ℕ) (accepted : Bool) (text : List ℕ) : Type 0 where
+pub record JudgementIsOne (scene : Scene) (sys : System) (unit : Option ℕ) (accepted : Bool)
+    (text : List ℕ) : Type 0 where
   pub only : (other : Bool) (words : List ℕ) → IsJudgedWith scene sys unit other words → accepted ≡ other
   pub one_text : accepted ≡ true → (words : List ℕ) → IsJudgedWith scene sys unit true words → text ≡ words
 
 -- what a program over lattices is judged to be is one
 abbrev pub OneJudgement : Type 0
-OneJudgement = (scene : Scene) (sys : System) (unit : Option ℕ) → AreLattices scene.lattices → (accepted : Bool) (text : List ℕ) →
+OneJudgement =
+    (scene : Scene) (sys : System) (unit : Option ℕ) → AreLattices scene.lattices → (accepted : Bool) (text : List ℕ) →
     IsJudgedWith scene sys unit accepted text → JudgementIsOne scene sys unit accepted text
 
 -- the constraints below a number have one count of exceeded bounds

@@ -6,9 +6,8 @@ use Rattle.cqual_tool.specs.Inputs.{Inputs}
 use Rattle.cqual_tool.specs.Outcome.{Outcome}
 
 -- The text of an answer with this status is one. Of what is rejected the path proofs are free, of who reaches a name
--- the walks, and of
--- a unit that is not well formed the code. The last three are the status of no outcome: the words and the files alone
--- tell none of them.
+-- the walks, and of a unit that is not well formed the code. The last three are the status of no outcome: the words and
+-- the files alone tell none of them.
 abbrev pub HasOneText : Status → Type 0
 HasOneText Accepted = Unit {0}
 HasOneText Rejected = ⊥
@@ -27,5 +26,7 @@ HasOneText NoMemory = ⊥
 
 -- The words and the bytes of the files have one status, and one text where the status has one.
 abbrev pub OneOutcome : Type 0
-OneOutcome = (words : List (List ℕ)) (inputs : Inputs) (s t : Status) (x y : List ℕ) → Outcome words inputs s x → Outcome words inputs t y →
+OneOutcome =
+    (words : List (List ℕ)) (inputs : Inputs)
+    (s t : Status) (x y : List ℕ) → Outcome words inputs s x → Outcome words inputs t y →
     (s ≡ t) × (HasOneText s → x ≡ y)

@@ -9,9 +9,9 @@ use Rattle.cq_prelude.specs.declared.fault.PreludeFault.{PreludeFault}
 use Rattle.cq_prelude.specs.declared.fault.PreludeFault.TheVariants.{NoMemory as OutOfSpace}
 
 -- The unit is one where words mean the same, its index words say one list of numbers at each place, and bytes that are
--- a prelude have
--- no fault.
-pub record PreludeIsOne (wide : Bool) (meanings : Meanings) (bytes : List ℕ) (unit : UnitRead) (marks : List IndexMark) : Type 0 where
+-- a prelude have no fault.
+pub record PreludeIsOne (wide : Bool) (meanings : Meanings) (bytes : List ℕ) (unit : UnitRead)
+    (marks : List IndexMark) : Type 0 where
   pub only : (words : Meanings) (other : UnitRead) (said : List IndexMark) → MeansTheSame words meanings
       → IsPrelude wide words bytes other said →
       unit ≡ other
@@ -23,5 +23,7 @@ pub record PreludeIsOne (wide : Bool) (meanings : Meanings) (bytes : List ℕ) (
 
 -- the prelude that bytes are is one
 abbrev pub OnePrelude : Type 0
-OnePrelude = (wide : Bool) (words meanings : Meanings) (bytes : List ℕ) (unit : UnitRead) (marks : List IndexMark) → MeansTheSame words meanings →
+OnePrelude =
+    (wide : Bool) (words meanings : Meanings) (bytes : List ℕ) (unit : UnitRead) (marks : List IndexMark)
+    → MeansTheSame words meanings →
     IsPrelude wide words bytes unit marks → PreludeIsOne wide meanings bytes unit marks

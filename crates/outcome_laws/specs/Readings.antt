@@ -18,7 +18,9 @@ pub record LatticesAreOne (wide : Bool) (bytes : List ℕ) (lattices : List Latt
 
 -- the lattices that bytes read as are one list
 abbrev pub OneReadingOfLattices : Type 0
-OneReadingOfLattices = (wide : Bool) (bytes : List ℕ) (lattices : List LatticeView) → Reads wide bytes lattices → LatticesAreOne wide bytes lattices
+OneReadingOfLattices =
+    (wide : Bool) (bytes : List ℕ) (lattices : List LatticeView) → Reads wide bytes lattices
+    → LatticesAreOne wide bytes lattices
 
 -- the bytes of a unit, read as wider C or not, spell these tokens, where words mean what these meanings say
 pub record Lexes (unit : ℕ) (wide : Bool) (meanings : Meanings) (bytes : List ℕ) (lexed : Lexed) : Type 0 where
@@ -36,5 +38,7 @@ pub record TokensAreOne (unit : ℕ) (wide : Bool) (meanings : Meanings) (bytes 
 
 -- the tokens that bytes spell are one list
 abbrev pub OneListOfTokens : Type 0
-OneListOfTokens = (unit : ℕ) (wide : Bool) (meanings : Meanings) (bytes : List ℕ) (lexed : Lexed) → Lexes unit wide meanings bytes lexed →
+OneListOfTokens =
+    (unit : ℕ) (wide : Bool) (meanings : Meanings) (bytes : List ℕ) (lexed : Lexed)
+    → Lexes unit wide meanings bytes lexed →
     TokensAreOne unit wide meanings bytes lexed

@@ -23,7 +23,8 @@ module _ (files : List (List ℕ × List ℕ)) where
 
   pub all_agree : (rest : List ℕ) (log : List Reading) → AreRead files rest log → All (Agrees files) log
   all_agree rest [] are = All-nil (Agrees files)
-  all_agree rest (r ∷ []) are = All-cons (Agrees files) r [] (may_give r.end (content_of files r.name) r.bytes rest are) (All-nil (Agrees files))
+  all_agree rest (r ∷ []) are =
+      All-cons (Agrees files) r [] (may_give r.end (content_of files r.name) r.bytes rest are) (All-nil (Agrees files))
   all_agree rest (r ∷ s ∷ more) are = All-cons (Agrees files) r (s ∷ more) are.0 (all_agree rest (s ∷ more) are.1)
 
   -- one reading more
@@ -49,23 +50,28 @@ module _ (files : List (List ℕ × List ℕ)) where
   at_none : (old rest : List ℕ) → old ≡ [] → rest ≡ [] → (r : Reading) (end : End) → end ≡ r.end
       → IsLeft end (content_of files r.name) r.bytes old
       → Left rest (ended end r)
-  at_none old rest none spent r Going same is = (is ∙ ap (λ (left : List ℕ). r.bytes ++ left) none ∙ append-nil r.bytes, spent)
+  at_none old rest none spent r Going same is =
+      (is ∙ ap (λ (left : List ℕ). r.bytes ++ left) none ∙ append-nil r.bytes, spent)
   at_none old rest none spent r Whole same is = (is.0, spent)
-  at_none old rest none spent r Broken same is = subst (λ (end : End). IsLeft end (content_of files r.name) r.bytes rest) same is
+  at_none old rest none spent r Broken same is =
+      subst (λ (end : End). IsLeft end (content_of files r.name) r.bytes rest) same is
 
   at_some : (piece old rest : List ℕ) → old ≡ piece ++ rest → (old ≡ [] → ⊥) → (r : Reading) (end : End) → end ≡ r.end
       → IsLeft end (content_of files r.name) r.bytes old → Left rest (given end piece r)
   at_some piece old rest moves some r Going same is =
       is ∙ ap (λ (left : List ℕ). r.bytes ++ left) moves ∙ sym (append_assoc r.bytes piece rest)
   at_some piece old rest moves some r Whole same is = absurd (some is.1)
-  at_some piece old rest moves some r Broken same is = subst (λ (end : End). IsLeft end (content_of files r.name) r.bytes rest) same is
+  at_some piece old rest moves some r Broken same is =
+      subst (λ (end : End). IsLeft end (content_of files r.name) r.bytes rest) same is
 
   pub goes_left : (E : Type 0) (n : ℕ) (into old rest : List ℕ) → old ≡ take n into ++ rest → (n ≡ 0 → old ≡ [])
       → (old ≡ [] → n ≡ 0)
       → (r : Reading) → Left old r → Left rest (goes_on {E = E} (Ok n) into r)
-  goes_left E zero into old rest moves none spent r is = at_none old rest (none refl) (sym moves ∙ none refl) r r.end refl is
+  goes_left E zero into old rest moves none spent r is =
+      at_none old rest (none refl) (sym moves ∙ none refl) r r.end refl is
   goes_left E (suc n) into old rest moves none spent r is =
-      at_some (take (suc n) into) old rest moves (λ e. let wrong : suc n ≡ 0 = spent e in absurd (omega (arith, wrong))) r r.end refl is
+      at_some (take (suc n) into) old rest moves
+      (λ e. let wrong : suc n ≡ 0 = spent e in absurd (omega (arith, wrong))) r r.end refl is
 
   -- a failure, and bytes that were moved
   pub fails_read : (E : Type 0) (e : E) (into old rest : List ℕ) (log : List Reading) → AreRead files old log

@@ -8,7 +8,8 @@ noted (zero ∷ []) name readings = readings ++ record { name = name; bytes = []
 noted (suc zero ∷ []) name readings = readings ++ record { name = name; bytes = []; end = Broken } ∷ []
 noted (suc (suc zero) ∷ []) piece readings = at_last (λ reading. given reading.end piece reading) readings
 noted (suc (suc (suc zero)) ∷ []) piece readings = at_last (λ reading. ended reading.end reading) readings
-noted other piece readings = at_last (λ reading. record { name = reading.name; bytes = reading.bytes; end = Broken }) readings
+noted other piece readings =
+    at_last (λ reading. record { name = reading.name; bytes = reading.bytes; end = Broken }) readings
 
 -- the readings of files that a history tells
 abbrev pub readings_in : List (List ℕ × List ℕ) → List Reading

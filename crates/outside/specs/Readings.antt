@@ -87,7 +87,8 @@ MayGive other content bytes = (rest : List ℕ) × (content ≡ bytes ++ rest)
 abbrev pub ReadsAs : List (List ℕ × List ℕ) → List Reading → Type 0
 ReadsAs files [] = Unit {0}
 ReadsAs [] (reading ∷ more) = ⊥
-ReadsAs (file ∷ files) (reading ∷ more) = (reading.name ≡ file.0) × MayGive reading.end file.1 reading.bytes × ReadsAs files more
+ReadsAs (file ∷ files) (reading ∷ more) =
+    (reading.name ≡ file.0) × MayGive reading.end file.1 reading.bytes × ReadsAs files more
 
 -- the bytes of the first file of that name, and none where no file has it; a file is its name and its bytes
 abbrev pub content_of : List (List ℕ × List ℕ) → List ℕ → List ℕ
@@ -109,8 +110,7 @@ abbrev pub stands : List Reading → ℕ → Option (List (List ℕ × List ℕ)
 stands log failed contents = record { log = log; failed = failed; contents = contents }
 
 -- A call went through these readings: each that broke is of one call that failed, and where the contents are told they
--- stay, and
--- may have given the readings.
+-- stay, and may have given the readings.
 pub record ReadOn (old new : Standing) (these : List Reading) : Type 0 where
   pub behind : new.log ≡ old.log ++ these
   pub failed : new.failed ≡ old.failed + broken_in these

@@ -8,8 +8,7 @@ use Rattle.outside.specs.declared.taking.TakeFault.{TakeFault}
 use Rattle.outside.specs.declared.taking.TakeFault.TheVariants.{ReadFault, TooLarge, NoMemory}
 
 -- All its bytes where its end was reached within the limit; too large exactly where more than the limit was given; and
--- a
--- read fault where a call failed.
+-- a read fault where a call failed.
 abbrev pub Takes : ℕ → Reading → Result (Vec ℕ Global) TakeFault → Type 0
 Takes limit reading (Ok v) = (reading.end ≡ Whole) × (reading.bytes ≡ v.items) × (length reading.bytes ≤ limit)
 Takes limit reading (Err TooLarge) = (reading.end ≡ Going) × (limit < length reading.bytes)

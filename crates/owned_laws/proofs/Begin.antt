@@ -30,7 +30,8 @@ use Rattle.row_rules.specs.RowSteps.Starting.{function_at, around, naming_has, s
 use Rattle.owned_laws.specs.OwnerLaws.Fitting.{start_at}
 use Rattle.owned_laws.specs.Contexts.{NamingIsOf, BodyIsOf}
 use Rattle.owned_laws.specs.Around.{BeginsIn, IsOwn}
-use Rattle.row_laws.specs.KeyLaws.Keys.{expr_key, form_key, init_key, fresh_key, spec_key, declr_key, op_key, key_place, key_places, KeyIsApart}
+use Rattle.row_laws.specs.KeyLaws.Keys.{expr_key, fresh_key, spec_key, declr_key, op_key, key_place, key_places, KeyIsApart}
+use Rattle.expr_types.specs.Keys.{form_key, init_key}
 use Rattle.owned_laws.proofs.ScopeLaws.Places.{declared_place, has_not_right, has_not_left, has_left, has_itself, differ_right, differ_before}
 use Rattle.owned_laws.proofs.Places.{none_before, none_behind, Kept, none_kept, joined_kept, OneAt, one_kept}
 
@@ -72,8 +73,7 @@ fresh_begins p e f (x ∷ []) own h it is = by (is_place x.at p) is
 fresh_begins p e f (x ∷ (y ∷ xs)) own h it is = absurd h
 
 -- In an item of the function: what begins where a name is declared belongs where that does, with the function or
--- nothing
--- around it; what is fresh is the function's or nobody's.
+-- nothing around it; what is fresh is the function's or nobody's.
 pub record IsPlaced (s : Names) (f : Option Place) (x : Start) : Type 0 where
   pub named : (d : Declared) → declared_at s.declared x.at ≡ Some d →
       (g : Option Place) × IsOwn f g × (x.owner ≡ owner_there s g d)
@@ -167,7 +167,12 @@ module _ (a : Around) (token : ℕ) where
   instance_is p t = by a.is_quiet
     where
       by : (b : Bool) → Fresh (if b then [] else
-          record { at = place a.spelling token; type = pointer [] t; owner = a.enclosing; calls = Some (link_of a.names p) } ∷ [])
+          record {
+            at = place a.spelling token;
+            type = pointer [] t;
+            owner = a.enclosing;
+            calls = Some (link_of a.names p);
+          } ∷ [])
       by true = tt
       by false = (refl, refl)
 

@@ -275,8 +275,10 @@ module _ (t : Option ℕ) where
         let it = begun_was t is_own m n e in
         let d = it.declaring in
         at (in_params is_own ∷ m) n ds
-        (rounds.with_round (rounds.params_naming is_own ds) (rounds.is_quiet r) r).around (sym it.is)
-        (params_are is_own d.name d.last d.own d.outer ds rs (λ own. (it.named own).1 ∙ sym (it.named own).2) (here d), h)
+        (rounds.with_round (rounds.params_naming is_own ds) (rounds.is_quiet r) r).around (sym it.is) (
+          params_are is_own d.name d.last d.own d.outer ds rs (λ own. (it.named own).1 ∙ sym (it.named own).2) (here d),
+          h,
+        )
     declr_aligned declrs.Param e =
         let was = param_was m n e in
         at (in_params was.1 ∷ was.2) n (without_innermost ds) (rounds.next_param r).around (sym was.4)
@@ -349,7 +351,8 @@ module _ (t : Option ℕ) where
       let begins = begins_its m b.0 st op h b.1 in (
         record { params = innermost_is_of m st.declarations st.rounds.around h; body = k; begins = begins },
         along w tape b.0 (step w st op) b.2
-            (subst (λ (ds : List OpenDeclaration). Aligned b.0 ds (step w st op).rounds.around) (sym (row_opens w st op))
+            (subst (λ (ds : List OpenDeclaration). Aligned b.0 ds (step w st op).rounds.around)
+            (sym (row_opens w st op))
             (aligned m b.0 st.declarations st.rounds h op b.1)) (body_behind w st op begins k),
       )
 

@@ -1,6 +1,7 @@
 -- The skeletons that each op of an item looks up are of the function around, where names mean what stays in the item.
 use Rattle.std.proofs.Common.{◌≡◌, ◌⊎◌, inl, inr, ℕ, Bool, true, false, List, [], ◌∷◌, ◌++◌, Option, None, Some, refl, sym, ◌∙◌, ap, subst}
 use Rattle.std.specs.Prelude.{if◌then◌else◌}
+use Rattle.std.proofs.lemmas.Option.{same_Some}
 use Rattle.tape_ops.specs.declared.op.Op.{Op}
 use Rattle.tape_ops.specs.declared.op.Op.TheVariants as ops
 use Rattle.tape_ops.specs.declared.expression.ExprOp.{ExprOp}
@@ -31,7 +32,8 @@ use Rattle.row_rules.specs.RowSteps.Rounds.{Naming, a_name, own_param, other_par
 use Rattle.row_rules.specs.RowSteps.State.{State}
 use Rattle.row_rules.specs.RowSteps.Steps.{step}
 use Rattle.row_rules.specs.RowSteps.Starting.{function_at, around, expr_op_starts, form_op_starts, init_op_starts, op_starts}
-use Rattle.row_laws.specs.KeyLaws.Keys.{expr_key, form_key, init_key, declr_key, op_key, key_place, key_places}
+use Rattle.row_laws.specs.KeyLaws.Keys.{expr_key, declr_key, op_key, key_place, key_places}
+use Rattle.expr_types.specs.Keys.{form_key, init_key}
 use Rattle.owned_laws.specs.ScopeLaws.Staying.{IsWithin, AreWithin}
 use Rattle.owned_laws.specs.OwnerLaws.Fitting.{start_at}
 use Rattle.owned_laws.specs.OwnerLaws.Rows.{IsInstance}
@@ -69,9 +71,6 @@ owned_none o g e = ap (λ (x : Option Place). owned_there x g) e
 owned_own : (f g o : Option Place) → IsOwn f g → IsOwn f (owned_there o g)
 owned_own f g None own = inl refl
 owned_own f g (Some p) own = own
-
-found_same : (x y : Declared) → Some x ≡ Some y → x ≡ y
-found_same x y e = cc
 
 module _ (k : Scene) where
   abbrev w : World
@@ -192,7 +191,8 @@ module _ (k : Scene) where
         (owned_own f found.0 d.owner found.1)
 
     within_begins : (p : Place) (d : Declared) → IsWithin s i.keys p → declared_at s.declared p ≡ Some d →
-        is_some_function (declared_at s.declared d.first) ≡ false → is_function_role d.role ≡ false → BeginsIn k.starts f p
+        is_some_function (declared_at s.declared d.first) ≡ false → is_function_role d.role ≡ false
+        → BeginsIn k.starts f p
     within_begins p d (inl keyed) e fun role = keyed_begins p d keyed e fun
     within_begins p d (inr file) e fun role = by (file d e)
       where
@@ -245,7 +245,7 @@ module _ (k : Scene) where
           → (d.first ≡ p) × (d.role ≡ function_role → d.owner ≡ Some d.at)
       it_is d e =
           let h = k.first.uses (place u token) p used in
-          let same : h.it ≡ d = found_same h.it d (sym h.there ∙ e) in (
+          let same : h.it ≡ d = same_Some h.it d (sym h.there ∙ e) in (
             subst (λ (c : Declared). c.first ≡ p) same h.is_first,
             λ role. subst (λ (c : Declared). c.owner ≡ Some c.at) same
                 (h.is_itself (ap (λ (c : Declared). c.role) same ∙ role)
@@ -263,8 +263,11 @@ module _ (k : Scene) where
           BeginsIn k.starts f (at w token) →
           start_at k.starts (place u token) ≡ start_at (use_by_role (around u s r) token d role) (place u token) →
           MeantFits w k.starts f (is_quiet r) token d role
-      role_fits d function_role e role here exact =
-          (here, λ loud. instance_fits token (around u s r) p d refl refl loud e role (it_is d e).0 ((it_is d e).1 role) exact)
+      role_fits d function_role e role here exact = (
+        here,
+        λ loud. instance_fits token (around u s r) p d refl refl loud e role (it_is d e).0
+            ((it_is d e).1 role) exact,
+      )
       role_fits d enumerator_role e role here exact = here
       role_fits d typedef_role e role here exact = object_fits d e (ap is_function_role role)
       role_fits d object_role e role here exact = object_fits d e (ap is_function_role role)
@@ -424,24 +427,33 @@ module _ (k : Scene) where
 
     expr_fits : (access : Bool) (sst : shapes.State) (st : State) (op : ExprOp) → BodyOwn st.rounds
         → IsKeyed (expr_key op) →
-        IsExact u s k.starts (expr_key op) (expr_op_starts u s sst (with_access access st.rounds) op) → ExprFits w k.starts f st op
+        IsExact u s k.starts (expr_key op) (expr_op_starts u s sst (with_access access st.rounds) op)
+        → ExprFits w k.starts f st op
     expr_fits access sst st (exprs.Name is_called token name) body own e =
         use_fits token (with_access access st.rounds) (use_at s.uses (place u token)) own refl
-        (fresh_fits token (with_access access st.rounds) _ body (expr_is u s sst (with_access access st.rounds) (exprs.Name is_called token name)) e) e
+        (fresh_fits token (with_access access st.rounds) _ body
+        (expr_is u s sst (with_access access st.rounds) (exprs.Name is_called token name)) e) e
     expr_fits access sst st (exprs.Number token) body own e =
-        fresh_fits token (with_access access st.rounds) _ body (expr_is u s sst (with_access access st.rounds) (exprs.Number token)) e
+        fresh_fits token (with_access access st.rounds) _ body
+        (expr_is u s sst (with_access access st.rounds) (exprs.Number token)) e
     expr_fits access sst st (exprs.Char token) body own e =
-        fresh_fits token (with_access access st.rounds) _ body (expr_is u s sst (with_access access st.rounds) (exprs.Char token)) e
+        fresh_fits token (with_access access st.rounds) _ body
+        (expr_is u s sst (with_access access st.rounds) (exprs.Char token)) e
     expr_fits access sst st (exprs.Text token) body own e =
-        fresh_fits token (with_access access st.rounds) _ body (expr_is u s sst (with_access access st.rounds) (exprs.Text token)) e
+        fresh_fits token (with_access access st.rounds) _ body
+        (expr_is u s sst (with_access access st.rounds) (exprs.Text token)) e
     expr_fits access sst st (exprs.Cond has_middle token first last) body own e =
-        fresh_fits token (with_access access st.rounds) _ body (expr_is u s sst (with_access access st.rounds) (exprs.Cond has_middle token first last)) e
+        fresh_fits token (with_access access st.rounds) _ body
+        (expr_is u s sst (with_access access st.rounds) (exprs.Cond has_middle token first last)) e
     expr_fits access sst st (exprs.Binary sign token first last) body own e =
-        fresh_fits token (with_access access st.rounds) _ body (expr_is u s sst (with_access access st.rounds) (exprs.Binary sign token first last)) e
+        fresh_fits token (with_access access st.rounds) _ body
+        (expr_is u s sst (with_access access st.rounds) (exprs.Binary sign token first last)) e
     expr_fits access sst st (exprs.Prefix sign token last aims) body own e =
-        fresh_fits token (with_access access st.rounds) _ body (expr_is u s sst (with_access access st.rounds) (exprs.Prefix sign token last aims)) e
+        fresh_fits token (with_access access st.rounds) _ body
+        (expr_is u s sst (with_access access st.rounds) (exprs.Prefix sign token last aims)) e
     expr_fits access sst st (exprs.Label token) body own e =
-        fresh_fits token (with_access access st.rounds) _ body (expr_is u s sst (with_access access st.rounds) (exprs.Label token)) e
+        fresh_fits token (with_access access st.rounds) _ body
+        (expr_is u s sst (with_access access st.rounds) (exprs.Label token)) e
     expr_fits access sst st op body own e = tt
 
     form_fits : (sst : shapes.State) (r : Rounds) (op : FormOp) → BodyOwn r →
@@ -469,11 +481,13 @@ module _ (k : Scene) where
 
     init_fits : (access : Bool) (sst : shapes.State) (st : State) (op : InitOp) → BodyOwn st.rounds
         → IsKeyed (declared_last st.declarations) →
-        IsExact u s k.starts (init_key op) (init_op_starts u s sst (with_access access st.rounds) op) → InitOpFits w k.starts f st op
+        IsExact u s k.starts (init_key op) (init_op_starts u s sst (with_access access st.rounds) op)
+        → InitOpFits w k.starts f st op
     init_fits access sst st (inits.Value first last) body own e = initialised_fits (declared_last st.declarations) own
     init_fits access sst st inits.Rule body own e = initialised_fits (declared_last st.declarations) own
     init_fits access sst st (inits.Literal token) body own e =
-        fresh_fits token (with_access access st.rounds) _ body (init_is u s sst (with_access access st.rounds) (inits.Literal token)) e
+        fresh_fits token (with_access access st.rounds) _ body
+        (init_is u s sst (with_access access st.rounds) (inits.Literal token)) e
     init_fits access sst st op body own e = tt
 
     -- what is opens along the tape of the item is of its tokens
@@ -516,10 +530,12 @@ module _ (k : Scene) where
 
     op_fits : (access : Bool) (sst : shapes.State) (st : State) (op : Op) → OpContext t st op → IsKeyed (op_key op) →
         AllDeclared st.declarations → AllAround st.rounds.around →
-        IsExact u s k.starts (op_key op) (op_starts u s sst (with_access access st.rounds) op) → OpFits w k.starts f st op
+        IsExact u s k.starts (op_key op) (op_starts u s sst (with_access access st.rounds) op)
+        → OpFits w k.starts f st op
     op_fits access sst st (ops.Expr op) its keyed opens around_ e =
         expr_fits access sst st op (body_own st.rounds.body its.body) keyed e
-    op_fits access sst st (ops.Form op) its keyed opens around_ e = form_fits sst (with_access access st.rounds) op (body_own st.rounds.body its.body) e
+    op_fits access sst st (ops.Form op) its keyed opens around_ e =
+        form_fits sst (with_access access st.rounds) op (body_own st.rounds.body its.body) e
     op_fits access sst st (ops.Init op) its keyed opens around_ e =
         init_fits access sst st op (body_own st.rounds.body its.body) (last_keyed st.declarations opens) e
     op_fits access sst st (ops.Spec op) its keyed opens around_ e = tt
@@ -652,8 +668,6 @@ module _ (k : Scene) where
               (λ p has. keyed p (has_right (key_place u (op_key op)) (key_places u tape) p has)) its.1
               (step_open st op here opens) (step_around st op opens around_)
               (subst (λ (r : Rounds). ExactAlong u s k.starts (shape_steps.step u s sst op) r tape)
-              (step_access access st.declarations st.rounds op)
-              (subst (λ (ds : List OpenDeclaration).
-              ExactAlong u s k.starts (shape_steps.step u s sst op) (round_step ds (with_access access st.rounds) op) tape)
-              same e.1)),
+              (step_access access st.declarations st.rounds op) (subst (λ (ds : List OpenDeclaration). ExactAlong u s
+              k.starts (shape_steps.step u s sst op) (round_step ds (with_access access st.rounds) op) tape) same e.1)),
         )

@@ -325,11 +325,13 @@ module _ (s : Names) (starts : List Start) where
     same_begun new is k = subst AllBegun (sym is) k
 
     top_begins : (x c : Option ℕ) (own : Bool) (outer : List Mark) (xs : List OpenDeclaration) →
-        NamesBegin u (in_declaration x c own ∷ outer) (names xs) → NameBegins u outer (innermost_or no_declaration xs).name
+        NamesBegin u (in_declaration x c own ∷ outer) (names xs)
+        → NameBegins u outer (innermost_or no_declaration xs).name
     top_begins x c own outer [] k = absurd k
     top_begins x c own outer (d ∷ xs) k = k.0
 
-    some_begun : (outer : List Mark) (old : Names) (untagged : Option ℕ) (it : Option Named) (words : List Keyword) (t : CType) →
+    some_begun : (outer : List Mark) (old : Names) (untagged : Option ℕ) (it : Option Named)
+        (words : List Keyword) (t : CType) →
         may_declare outer ≡ true → NameBegins u outer it → AllBegun old.declared →
         AllBegun (declared_some u untagged it words t old).declared
     some_begun outer old untagged None words t o begins k = k
@@ -382,13 +384,15 @@ module _ (s : Names) (starts : List Start) where
         by : (i : Option ℕ) → AllBegun (old_declared u own it t i its).names.declared
         by None = k
         by (Some i) =
-            param_begun (with_faults (fault_where (is_typed (slice_get its.list i)) (place u it.token) defined_twice) its.names)
+            param_begun
+            (with_faults (fault_where (is_typed (slice_get its.list i)) (place u it.token) defined_twice) its.names)
             (Some it) i own t k
 
     name_begun : (d : Declaring m) → may_declare d.outer ≡ true → AllBegun st.names.declared →
         AllBegun (name_declared u st).names.declared
     name_begun d o k =
-        some_begun d.outer st.names (untagged_number (declaration st).is_untagged (declaration st).type) (declaration st).name
+        some_begun d.outer st.names (untagged_number (declaration st).is_untagged (declaration st).type)
+        (declaration st).name
         (declaration st).storage (declaration st).declared o
         (top_begins d.name d.last d.own d.outer ds (here d)) k
 
@@ -487,12 +491,15 @@ module _ (s : Names) (starts : List Start) where
     sources_begun access (it ∷ sources) old sound k inside =
         let unit = All-head IsSound it sources sound in
         sources_begun access sources _ (All-tail IsSound it sources sound)
-        (items_begun it.spelling unit.0 it.items unit.1.parts (with_names (unit_begun it.spelling.unit old)) shapes.nothing
+        (items_begun it.spelling unit.0 it.items unit.1.parts
+        (with_names (unit_begun it.spelling.unit old)) shapes.nothing
         (file access) refl k
         (subst (λ (xs : List Start). (p : Place) → Has xs p → Has starts p)
         (sym (begins access it.spelling s unit.0 it.items unit.1))
-        (λ p has. inside p (has_left (items_starts access it.spelling s it.items) (starts_among access s sources) p has))))
-        (λ p has. inside p (has_right (items_starts access it.spelling s it.items) (starts_among access s sources) p has))
+        (λ p has.
+        inside p (has_left (items_starts access it.spelling s it.items) (starts_among access s sources) p has))))
+        (λ p has.
+        inside p (has_right (items_starts access it.spelling s it.items) (starts_among access s sources) p has))
 
   begun_found : (ds : List Declared) (p : Place) (d : Declared) → AllBegun ds → declared_at ds p ≡ Some d →
       d.role ≡ function_role → Begun d.at

@@ -243,7 +243,8 @@ module _ (k : Setting) where
   pub reverse_in : (xs : List Operand) → OperandsIn xs → OperandsIn (reverse xs)
   reverse_in [] h = tt
   reverse_in (x ∷ xs) h =
-      subst OperandsIn (sym (reverse-append (x ∷ []) xs)) (append_in (reverse xs) (x ∷ []) (reverse_in xs h.1) (h.0, tt))
+      subst OperandsIn (sym (reverse-append (x ∷ []) xs))
+      (append_in (reverse xs) (x ∷ []) (reverse_in xs h.1) (h.0, tt))
 
   first_in : (xs : List Operand) → OperandsIn xs → OperandIn (first_operand xs)
   first_in [] h = tt

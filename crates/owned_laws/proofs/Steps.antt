@@ -115,14 +115,16 @@ module _ (k : Setting) where
       put_in 2 _ st (binary_in k sign (value_at 1 st) (value_at 0 st) (own w token) (value_at_in 1 st h)
       (value_at_in 0 st h) (own_in k token fit)) h
   expr_in st (exprs.Prefix sign token last aims) h fit =
-      put_in 1 _ (carrying (aims && is_star sign) (value_at 0 st) st) (prefix_in k token sign (val_at 0 st) aims (val_in 0 st h) fit)
+      put_in 1 _ (carrying (aims && is_star sign) (value_at 0 st) st)
+      (prefix_in k token sign (val_at 0 st) aims (val_in 0 st h) fit)
       (carrying_in (aims && is_star sign) (value_at 0 st) st (value_at_in 0 st h) h)
   expr_in st (exprs.Post sign token first) h fit = put_in 1 _ st (value_at_in 0 st h) h
   expr_in st (exprs.Index token first last aims) h fit =
       put_in 2 _ (carrying aims (if is_ref (value_at 1 st) then value_at 1 st else value_at 0 st) st)
       (index_in k w.spelling.wide (val_at 1 st) (val_at 0 st) (val_in 1 st h) (val_in 0 st h))
       (carrying_in aims (if is_ref (value_at 1 st) then value_at 1 st else value_at 0 st) st
-      (either_in k (is_ref (value_at 1 st)) (value_at 1 st) (value_at 0 st) (value_at_in 1 st h) (value_at_in 0 st h)) h)
+      (either_in k (is_ref (value_at 1 st)) (value_at 1 st) (value_at 0 st) (value_at_in 1 st h)
+      (value_at_in 0 st h)) h)
   expr_in st (exprs.Arg behind first last) h fit = h
   expr_in st (exprs.Call token count) h fit =
       put_in (suc count) _ (record st { passed = 0 }) (result_in k (contents (value_at count st))
@@ -258,7 +260,13 @@ module _ (k : Setting) where
 
   declr_in : (st : State) (op : DeclrOp) → StacksIn k st → StacksIn k (declr_step w st op)
   declr_in st (declrs.TypeName first) h =
-      record { operands = (tt, h.operands); leaves = h.leaves; braces = h.braces; literal = h.literal; carried = h.carried }
+      record {
+        operands = (tt, h.operands);
+        leaves = h.leaves;
+        braces = h.braces;
+        literal = h.literal;
+        carried = h.carried;
+      }
   declr_in st op h = h
 
   stmt_in : (st : State) (op : StmtOp) → StacksIn k st → StacksIn k (stmt_step st op)
@@ -312,11 +320,13 @@ module _ (k : Setting) where
   forms_in : (p : Place) (where_ : Span) → (o : Option Start) → start_at k.starts p ≡ o
       → AllFit (sys k) (formed w where_ (skeleton w p))
   forms_in p where_ None e =
-      rows.form (skeleton w p) where_ members_inside (skeleton_in k p (λ it is. let clash : None ≡ Some it = sym e ∙ is in absurd cc))
+      rows.form (skeleton w p) where_ members_inside
+      (skeleton_in k p (λ it is. let clash : None ≡ Some it = sym e ∙ is in absurd cc))
   forms_in p where_ (Some start) e =
       let there : Setting = record k { function = start.owner } in
       (k.law.rows (sys k) (owner there) w).form (skeleton w p) where_ members_inside
-      (skeleton_in there p (λ it is. let same : Some start ≡ Some it = sym e ∙ is in inr (ap (λ (s : Start). s.owner) (some_is start it same))))
+      (skeleton_in there p (λ it is. let same : Some start ≡ Some it = sym e ∙ is in
+      inr (ap (λ (s : Start). s.owner) (some_is start it same))))
     where
       some_is : (one other : Start) → Some one ≡ Some other → other ≡ one
       some_is one other is = cc
@@ -396,11 +406,13 @@ module _ (k : Setting) where
       rows.index (value_at 1 st) (value_at 0 st) aims (span w first last)
   expr_fits st (exprs.Arg behind first last) loud h fit =
       let f = called_at behind st in
-      let inside = contents_in k (value_at (suc (behind + st.passed)) st) (value_at_in (suc (behind + st.passed)) st h) in
+      let inside =
+      contents_in k (value_at (suc (behind + st.passed)) st) (value_at_in (suc (behind + st.passed)) st h) in
       rows.argument (is_zero_at behind st) (value_at behind st) (param_at (parameters f) st.passed) (further f)
       (span w first last) (value_at_in behind st h)
       (arg_in f st.passed inside (param_at (parameters f) st.passed) refl) (further_in k f inside)
-  expr_fits st (exprs.Arrow token first last aims) loud h fit = rows.dereference (value_at 0 st) aims (span w first last)
+  expr_fits st (exprs.Arrow token first last aims) loud h fit =
+      rows.dereference (value_at 0 st) aims (span w first last)
   expr_fits st (exprs.Text token) loud h fit = form_here token
   expr_fits st (exprs.Label token) loud h fit = form_here token
   expr_fits st op loud h fit = tt
@@ -441,7 +453,8 @@ module _ (k : Setting) where
       target_fits (initialised_by w (declared_last st.declarations)) (first_operand st.operands) (span w first last)
       (initialised_in k (declared_last st.declarations) fit) (first_value_in k st.operands h.operands)
   init_fits st (inits.Literal token) h fit =
-      k.law.lists (sys k) (formed_here w token) (annotating_place w (type_of_operand (first_operand (operands_below st))) (own w token))
+      k.law.lists (sys k) (formed_here w token)
+      (annotating_place w (type_of_operand (first_operand (operands_below st))) (own w token))
       (form_here token) (annotating_place_fits (type_of_operand (first_operand (operands_below st))) (own w token))
   init_fits st (inits.Leaf first last) h fit =
       target_fits (target_in w (first_braces st.braces)) (first_operand st.leaves) (span w first last)
@@ -484,7 +497,8 @@ module _ (k : Setting) where
       AllFit (sys k) (param_row w f n d)
   param_fits f n None h l = tt
   param_fits f n (Some d) h (inl e) = rows.parameter f n d (form_at d.at (word_span d.at)) h (inl e)
-  param_fits f n (Some d) h (inr l) = rows.parameter f n d (form_at d.at (word_span d.at)) h (inr (skeleton_in k d.at l))
+  param_fits f n (Some d) h (inr l) =
+      rows.parameter f n d (form_at d.at (word_span d.at)) h (inr (skeleton_in k d.at l))
 
   some_param_fits : (f : Option Skel) (n token : ℕ) → SomeSkelIn k f →
       ParamFits w k.starts k.function (declared_at w.names.declared (at w token)) →
@@ -522,7 +536,8 @@ module _ (k : Setting) where
       some_param_fits (function_skeleton w g) n token (function_in k g h.0) h.1
   naming_fits token other_param h = tt
   naming_fits token (identified_param g) h =
-      identified_fits (function_skeleton w g) token (declared_at w.names.declared (at w token)) (function_in k g h.0) h.1
+      identified_fits (function_skeleton w g) token (declared_at w.names.declared (at w token))
+      (function_in k g h.0) h.1
 
   spec_fits : (op : SpecOp) → AllFit (sys k) (spec_row w op)
   spec_fits (specs.UnnamedMember token) = form_here token

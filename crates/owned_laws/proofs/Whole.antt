@@ -3,6 +3,7 @@ use Rattle.std.proofs.Common.{◌≡◌, ℕ, zero, suc, All, map, true, false, 
 use Rattle.std.specs.List.{Contains}
 use Rattle.std.proofs.lemmas.List.Elements.{All-nil, All-cons, All-head, All-tail}
 use Rattle.std.specs.Prelude.{◌+◌, ◌≤◌, max, if◌then◌else◌}
+use Rattle.std.proofs.lemmas.Option.{same_Some}
 use Rattle.flow_graph.specs.System.{IsWellOwned}
 use Rattle.qual_types.specs.Skel.{nodes}
 use Rattle.flow_rules.specs.Owners.{AllOwned}
@@ -42,6 +43,7 @@ use Rattle.owned_laws.specs.Around.{Settled}
 use Rattle.owned_laws.specs.Tapes.{TapesFit}
 use Rattle.owned_laws.specs.Programs.{SystemsAreOwned}
 use Rattle.name_rules.proofs.MeaningLaws.Lists.{place_itself, place_is}
+use Rattle.row_laws.proofs.KeyLaws.Sound.{sound_of}
 use Rattle.owned_laws.proofs.ScopeLaws.Places.{declared_place, has_itself, has_left, has_right, differ_before, differ_apart, differ_right, keys_joined}
 use Rattle.owned_laws.proofs.Places.{Kept, none_kept, joined_kept, none_before, none_behind}
 use Rattle.owned_laws.proofs.Begin.{IsPlaced, AllPlaced, placed_at, tape_kept, ExactAlong, exact, regroup}
@@ -73,16 +75,6 @@ apart_right : (u : Spelling) (s : Names) (xs ys : List Op) → KeysAreApart u s 
 apart_right u s [] ys h = h
 apart_right u s (op ∷ xs) ys h = apart_right u s xs ys h.1
 
--- sources that are read are sound
-sound_of : (sources : List Source) → All IsRead sources → All IsSound sources
-sound_of [] h = All-nil IsSound
-sound_of (it ∷ sources) h =
-    let read = All-head IsRead it sources h in
-    All-cons IsSound it sources (read.all, read.rules) (sound_of sources (All-tail IsRead it sources h))
-
-found_once : (x y : Declared) → Some x ≡ Some y → x ≡ y
-found_once x y e = cc
-
 nothing_named : (it : ℕ × Place) → Contains (names_of []).things it → ⊥
 nothing_named it (i, within, is) = omega (arith, within)
 
@@ -103,7 +95,8 @@ first_is bodies d first role =
 
 -- a function that is numbered among declarations is so with one declaration more in front
 one_more : (f : Place → Place) (bodies : List Place) (x : Declared) (ds : List Declared) (q : Place) →
-    has_place (map f (functions_among bodies ds)) (f q) ≡ true → has_place (map f (functions_among bodies (x ∷ ds))) (f q) ≡ true
+    has_place (map f (functions_among bodies ds)) (f q) ≡ true
+    → has_place (map f (functions_among bodies (x ∷ ds))) (f q) ≡ true
 one_more f bodies x ds q has = on (is_first_function bodies x)
   where
     on : (b : Bool)
@@ -125,8 +118,10 @@ function_numbered f bodies (x ∷ ds) q d e is =
     by true here found later =
         let same : x ≡ d = cc in
         let at : x.at ≡ q = place_is x.at q here in
-        let yes : is_first_function bodies x ≡ true = subst (λ (c : Declared). is_first_function bodies c ≡ true) (sym same) is in
-        ap (λ (b : Bool). has_place (map f (if b then x.at ∷ functions_among bodies ds else functions_among bodies ds)) (f q)) yes
+        let yes : is_first_function bodies x ≡ true =
+        subst (λ (c : Declared). is_first_function bodies c ≡ true) (sym same) is in
+        ap (λ (b : Bool). has_place
+        (map f (if b then x.at ∷ functions_among bodies ds else functions_among bodies ds)) (f q)) yes
         ∙ subst (λ (y : Place). has_place (f x.at ∷ map f (functions_among bodies ds)) (f y) ≡ true) at
         (has_itself (f x.at) (map f (functions_among bodies ds)))
     by false other found later = later found
@@ -211,7 +206,8 @@ module _ (law : Laws) where
   sources_kept access s [] read = none_kept
   sources_kept access s (it ∷ sources) read =
       let unit = All-head IsRead it sources read in
-      joined_kept (key_places it.spelling (tape_of it.items)) (keys_among sources) (items_starts access it.spelling s it.items)
+      joined_kept (key_places it.spelling (tape_of it.items)) (keys_among sources)
+      (items_starts access it.spelling s it.items)
       (starts_among access s sources) (unit_kept access it.spelling s unit.all it.items unit.rules)
       (sources_kept access s sources (All-tail IsRead it sources read))
 
@@ -247,7 +243,8 @@ module _ (law : Laws) where
     function_of it item = function_at it.spelling s (function_token item)
 
     item_placed : (it : Source) (lexemes : List Lexeme) (item : Item) → IsUnit lexemes (item ∷ []) → DeclaresIts item →
-        KeysAreApart it.spelling s (item_tape item) → AllPlaced s (function_of it item) (item_starts access it.spelling s item)
+        KeysAreApart it.spelling s (item_tape item)
+        → AllPlaced s (function_of it item) (item_starts access it.spelling s item)
     item_placed it lexemes item one declares apart =
         subst (AllPlaced s (function_of it item)) (item_begins access it.spelling s lexemes item one)
         (tape_placed access (world_of p it) (function_token item) (item_tape item) shapes.nothing nothing refl
@@ -259,7 +256,8 @@ module _ (law : Laws) where
     items_some it all (item ∷ items) rules apart =
         some_joined s (item_starts access it.spelling s item) (items_starts access it.spelling s items)
         (some_of s (function_of it item) (item_starts access it.spelling s item)
-        (item_placed it all item (one_unit all item items rules) (declares_its all item (first_item all item items rules))
+        (item_placed it all item (one_unit all item items rules)
+        (declares_its all item (first_item all item items rules))
         (apart_left it.spelling s (item_tape item) (tape_of items) apart)))
         (items_some it all items (other_units all item items rules)
         (apart_right it.spelling s (item_tape item) (tape_of items) apart))
@@ -281,7 +279,8 @@ module _ (law : Laws) where
       starts = starts;
       placed = λ q x is. some_at s starts q x (sources_some p.sources read apart_all) is;
       first = first;
-      functions = functions_begin s starts law.bracketed law.begins access p.sources sound (law.names p.sources sound) refl;
+      functions =
+          functions_begin s starts law.bracketed law.begins access p.sources sound (law.names p.sources sound) refl;
     }
 
     settled : (it : Source) → Settled starts (world_of p it)
@@ -292,7 +291,8 @@ module _ (law : Laws) where
     }
 
     -- an item, with the skeletons before and behind it
-    module _ (it : Source) (lexemes : List Lexeme) (item : Item) (one : IsUnit lexemes (item ∷ [])) (xs zs : List Start) (ps rs : List Place) (before : Kept ps xs)
+    module _ (it : Source) (lexemes : List Lexeme) (item : Item) (one : IsUnit lexemes (item ∷ [])) (xs zs : List Start)
+        (ps rs : List Place) (before : Kept ps xs)
         (behind : Kept rs zs) (all : xs ++ (item_starts access it.spelling s item ++ zs) ≡ starts)
         (apart : AreDifferent (ps ++ (key_places it.spelling (item_tape item) ++ rs))) where
       keys : List Place
@@ -383,12 +383,15 @@ module _ (law : Laws) where
     sources_fit [] xs ps h e d rules keys_apart stay = tt
     sources_fit (it ∷ sources) xs ps h e d rules keys_apart stay =
         law.lists (system_of p) (items_demand (world_of p it) it.items) (demands_among p sources)
-        (items_fit it (All-head IsRead it sources rules).all it.items xs (starts_among access s sources) ps (keys_among sources) h
-        (sources_kept access s sources (All-tail IsRead it sources rules)) e d (All-head IsRead it sources rules).rules keys_apart.0 stay.0)
+        (items_fit it (All-head IsRead it sources rules).all it.items xs (starts_among access s sources) ps
+        (keys_among sources) h
+        (sources_kept access s sources (All-tail IsRead it sources rules)) e d
+        (All-head IsRead it sources rules).rules keys_apart.0 stay.0)
         (sources_fit sources (xs ++ items_starts access it.spelling s it.items)
         (ps ++ key_places it.spelling (tape_of it.items))
         (joined_kept ps (key_places it.spelling (tape_of it.items)) xs (items_starts access it.spelling s it.items) h
-        (unit_kept access it.spelling s (All-head IsRead it sources rules).all it.items (All-head IsRead it sources rules).rules))
+        (unit_kept access it.spelling s (All-head IsRead it sources rules).all it.items
+        (All-head IsRead it sources rules).rules))
         (append_assoc xs (items_starts access it.spelling s it.items) (starts_among access s sources) ∙ e)
         (subst AreDifferent
         (sym (append_assoc ps (key_places it.spelling (tape_of it.items)) (keys_among sources))) d)
@@ -399,7 +402,7 @@ module _ (law : Laws) where
         declared_at s.declared q ≡ Some d → d.role ≡ function_role → OwnsIts p q
     own_theirs skeletons it name q d in_it e role =
         let thing = thing_at (IsThing s.declared) s.things (name, q) first.things in_it in
-        let same : thing.it ≡ d = found_once thing.it d (sym thing.there ∙ e) in
+        let same : thing.it ≡ d = same_Some thing.it d (sym thing.there ∙ e) in
         let here : d.at ≡ q = declared_place s.declared q d e in
         let firstly : d.first ≡ q = subst (λ (c : Declared). c.first ≡ q) same thing.is_first in
         let own : d.owner ≡ Some q =

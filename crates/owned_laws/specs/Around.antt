@@ -1,6 +1,5 @@
 -- What must hold at each op of a tape, that its constraints stay in the function around it: that the skeletons which it
--- looks up
--- belong to that function or to nobody.
+-- looks up belong to that function or to nobody.
 use Rattle.std.specs.Prelude.{◌≡◌, ◌⊎◌, ℕ, Bool, true, false, List, slice_get, Option, None, Some}
 use Rattle.tape_ops.specs.declared.op.Op.{Op}
 use Rattle.tape_ops.specs.declared.op.Op.TheVariants as ops
@@ -59,12 +58,12 @@ UseFits w starts f quiet token called = BeginsIn starts f (at w token)
 UseFits w starts f quiet token missing = Unit {0}
 
 -- a declared name, the first declaration of what it names in its unit or in the prelude, and that of all units are of
--- one function, or
--- of nobody
+-- one function, or of nobody
 abbrev pub DeclaredFits : World → List Start → Option Declared → Type 0
 DeclaredFits w starts None = Unit {0}
 DeclaredFits w starts (Some d) =
-    (g : Option Place) × BeginsIn starts g d.first × BeginsIn starts g (link_of w.names d.first) × BeginsIn starts g d.at
+    (g : Option Place) × BeginsIn starts g d.first × BeginsIn starts g (link_of w.names d.first)
+    × BeginsIn starts g d.at
 
 -- what was first declared as a function is no parameter
 abbrev pub ParamFits : World → List Start → Option Place → Option Declared → Type 0

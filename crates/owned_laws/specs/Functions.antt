@@ -1,6 +1,5 @@
 -- Each object or function that was first declared at a place as a function has a number among functions, and a skeleton
--- there, of which
--- all variables are its own.
+-- there, of which all variables are its own.
 use Rattle.std.specs.Prelude.{◌≡◌, ℕ, true, All, Some}
 use Rattle.std.specs.List.{Contains}
 use Rattle.flow_graph.specs.System.{owner_of}
@@ -19,7 +18,8 @@ use Rattle.row_laws.specs.KeyLaws.Differing.{IsRead, UnitsDiffer}
 -- what was first declared at the place is a function, by its link, and the variables of the skeleton there belong to it
 pub record OwnsIts (p : Program) (q : Place) : Type 0 where
   pub numbered : has_place (functions_of (names_of p.sources)) (link_of (names_of p.sources) q) ≡ true
-  pub owned : AllOwned (owner_of (system_of p)) (owner_by (functions_of (names_of p.sources)) (Some (link_of (names_of p.sources) q)))
+  pub owned : AllOwned (owner_of (system_of p))
+      (owner_by (functions_of (names_of p.sources)) (Some (link_of (names_of p.sources) q)))
       (nodes (skeleton_among (numbered_from 0 (starts_of (has_access p.lattices) p.sources)) q))
 
 -- the law: functions own the variables of their skeletons, where units were read and no two have one number

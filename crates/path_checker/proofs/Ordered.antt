@@ -13,7 +13,8 @@ view_of None order e = absurd cc
 -- a lattice by its number has this order
 order_there : (lattices : List LatticeView) (n : ℕ) (order : Order) → slice_get (orders_of lattices) n ≡ Some order →
     (view : LatticeView) × (slice_get lattices n ≡ Some view) × (view.order ≡ order)
-order_there lattices n order there = view_of (slice_get lattices n) order (sym (slice_get-map (λ (view : LatticeView). view.order) lattices n) ∙ there)
+order_there lattices n order there =
+    view_of (slice_get lattices n) order (sym (slice_get-map (λ (view : LatticeView). view.order) lattices n) ∙ there)
 
 -- the orders of lattices that are lattices are orders
 pub all_ordered : (lattices : List LatticeView) → AreLattices lattices → AreOrders (orders_of lattices)

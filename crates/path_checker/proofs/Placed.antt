@@ -45,7 +45,9 @@ module _ (edges : ℕ) where
   Placed section n lines NoMemory = Unit {0}
 
   here : (section : Section) (n : ℕ) (lines : List Line) → StandsAt section n 0 lines
-  here section n lines = let done = completes section n in record { within = omega arith; behind = done.0; begins = done.1 edges }
+  here section n lines =
+      let done = completes section n in
+      record { within = omega arith; behind = done.0; begins = done.1 edges }
 
   unknown_line : (line : Line) → is_unknown edges line ≡ true → (number : ℕ) × (line ≡ Take number) × (edges ≤ number)
   unknown_line (Take m) unknown = (m, refl, grind (arith, unknown))
@@ -79,7 +81,8 @@ module _ (edges : ℕ) where
 
   passes_on : (others : ℕ) (section to : Section) (n : ℕ) (line : Line) (rest : List Line) (b : Bool)
       → is_unknown others line ≡ b →
-      cond b (Some (NoSuchConstraint n)) (fault_from others to (n + 1) rest) ≡ None → fault_from others to (n + 1) rest ≡ None
+      cond b (Some (NoSuchConstraint n)) (fault_from others to (n + 1) rest) ≡ None
+      → fault_from others to (n + 1) rest ≡ None
   passes_on others section to n line rest true is h = absurd cc
   passes_on others section to n line rest false is h = h
 
@@ -94,7 +97,8 @@ module _ (edges : ℕ) where
       none = λ below others behind passes.
           misfits.none (omega (arith, below)) others behind
           (passes_on others section to n line (take (suc k) lines ++ behind) (is_unknown others line) refl
-          (subst (λ (o : Option Section). fault_behind others n line o (λ s. fault_from others s (n + 1) (take (suc k) lines ++ behind)) ≡ None) follows passes));
+          (subst (λ (o : Option Section). fault_behind others n line o
+          (λ s. fault_from others s (n + 1) (take (suc k) lines ++ behind)) ≡ None) follows passes));
     },
   )
   placed_on section to n line lines (NoSuchConstraint m) follows named (k, is, names) = (
@@ -121,7 +125,8 @@ module _ (edges : ℕ) where
           stands = here section n (line ∷ lines);
           none = λ below others behind passes.
               let clash : fault_behind others n line None (λ s. fault_from others s (n + 1) behind) ≡ None =
-              subst (λ (o : Option Section). fault_behind others n line o (λ s. fault_from others s (n + 1) behind) ≡ None) follows passes in
+              subst (λ (o : Option Section). fault_behind others n line o (λ s. fault_from others s (n + 1) behind)
+              ≡ None) follows passes in
               cc;
         },
       ) in
@@ -137,7 +142,8 @@ module _ (edges : ℕ) where
   unnamed section to n line lines fault follows unknown is =
       let number = unknown_line line unknown in
       let end = completes to (n + 1) in
-      let known : is_unknown (suc number.0) line ≡ false = subst (λ (l : Line). is_unknown (suc number.0) l ≡ false) (sym number.1) (known_below number.0) in
+      let known : is_unknown (suc number.0) line ≡ false =
+      subst (λ (l : Line). is_unknown (suc number.0) l ≡ false) (sym number.1) (known_below number.0) in
       let placed : Placed section n (line ∷ lines) (NoSuchConstraint n) = (
         0,
         omega arith,
@@ -155,14 +161,19 @@ module _ (edges : ℕ) where
   placed_named : (section to : Section) (n : ℕ) (line : Line) (lines : List Line) (fault : ReportFault) (b : Bool)
       → is_unknown edges line ≡ b → next section line ≡ Some to →
       ((to : Section) → fault_from edges to (n + 1) lines ≡ Some fault → Placed to (n + 1) lines fault) →
-      cond b (Some (NoSuchConstraint n)) (fault_from edges to (n + 1) lines) ≡ Some fault → Placed section n (line ∷ lines) fault
-  placed_named section to n line lines fault true unknown follows deeper h = unnamed section to n line lines fault follows unknown cc
-  placed_named section to n line lines fault false named follows deeper h = placed_on section to n line lines fault follows named (deeper to h)
+      cond b (Some (NoSuchConstraint n)) (fault_from edges to (n + 1) lines) ≡ Some fault
+      → Placed section n (line ∷ lines) fault
+  placed_named section to n line lines fault true unknown follows deeper h =
+      unnamed section to n line lines fault follows unknown cc
+  placed_named section to n line lines fault false named follows deeper h =
+      placed_on section to n line lines fault follows named (deeper to h)
 
-  placed_behind : (section : Section) (n : ℕ) (line : Line) (lines : List Line) (fault : ReportFault) (o : Option Section)
+  placed_behind : (section : Section) (n : ℕ) (line : Line) (lines : List Line) (fault : ReportFault)
+      (o : Option Section)
       → next section line ≡ o →
       ((to : Section) → fault_from edges to (n + 1) lines ≡ Some fault → Placed to (n + 1) lines fault) →
-      fault_behind edges n line o (λ s. fault_from edges s (n + 1) lines) ≡ Some fault → Placed section n (line ∷ lines) fault
+      fault_behind edges n line o (λ s. fault_from edges s (n + 1) lines) ≡ Some fault
+      → Placed section n (line ∷ lines) fault
   placed_behind section n line lines fault None follows deeper h = at_once section n line lines fault follows cc
   placed_behind section n line lines fault (Some to) follows deeper h =
       placed_named section to n line lines fault (is_unknown edges line) refl follows deeper h
@@ -171,7 +182,11 @@ module _ (edges : ℕ) where
       → Placed section n [] fault
   at_end section n fault true h = absurd cc
   at_end section n fault false h =
-      let placed : Placed section n [] (Grammar n) = (0, omega arith, record { stands = here section n []; none = λ below others behind passes. absurd (omega (arith, below)) }) in
+      let placed : Placed section n [] (Grammar n) = (
+        0,
+        omega arith,
+        record { stands = here section n []; none = λ below others behind passes. absurd (omega (arith, below)) },
+      ) in
       let same : Grammar n ≡ fault = cc in
       subst (λ (f : ReportFault). Placed section n [] f) same placed
 
@@ -193,7 +208,8 @@ module _ (edges : ℕ) where
         number = omega (arith, there.1);
         within = there.2.stands.within;
         begins = begins_report there.0 lines there.2.stands;
-        misfit = λ below others begun. there.2.none below others begun.0 (report_passes others (take (suc there.0) lines ++ begun.0) begun.1);
+        misfit = λ below others begun.
+            there.2.none below others begun.0 (report_passes others (take (suc there.0) lines ++ begun.0) begun.1);
         unfinished = λ end is. let passes = report_passes edges lines is in cc;
       }
   fault_is_placed lines (NoSuchConstraint m) h =
@@ -205,6 +221,9 @@ module _ (edges : ℕ) where
         constraint = there.2.number;
         line_is = there.2.is;
         past = there.2.past;
-        fits = (there.2.behind, passing_is_report (suc there.2.number) (take (suc there.0) lines ++ there.2.behind) there.2.fits);
+        fits = (
+          there.2.behind,
+          passing_is_report (suc there.2.number) (take (suc there.0) lines ++ there.2.behind) there.2.fits,
+        );
       }
   fault_is_placed lines NoMemory h = tt

@@ -17,29 +17,37 @@ use Rattle.path_checker.specs.Reader.{Held, keep_line, goes_on, IsClear, Takes, 
 -- a line that may stand there leaves the proofs that will be given as they are
 abbrev Turns : Section → Line → Held → ℕ → List Line → Option Section → Type 0
 Turns section line held n lines None = Unit {0}
-Turns section line held n lines (Some to) = (goes_on to (keep_line n line held) (n + 1) lines ≡ goes_on section held n (line ∷ lines)) × IsClear to (keep_line n line held)
+Turns section line held n lines (Some to) =
+    (goes_on to (keep_line n line held) (n + 1) lines ≡ goes_on section held n (line ∷ lines))
+    × IsClear to (keep_line n line held)
 
 past : (n m : ℕ) → n + 1 + m ≡ n + suc m
 past n m = omega arith
 
 -- a line that may stand in a section leaves the proofs as they will be, in each section
-turns : (section : Section) (line : Line) (p : List Steps) (ss : List (List PathStep)) (st : List PathStep) (n : ℕ) (lines : List Line) →
-    let held : Held = record { section = section; proofs = p; subs = ss; steps = st } in IsClear section held → Turns section line held n lines (next section line)
+turns : (section : Section) (line : Line) (p : List Steps) (ss : List (List PathStep)) (st : List PathStep) (n : ℕ)
+    (lines : List Line) →
+    let held : Held = record { section = section; proofs = p; subs = ss; steps = st } in
+    IsClear section held → Turns section line held n lines (next section line)
 turns Start Rejected p ss st n lines clear = (refl, clear)
 turns Opened Error p ss st n lines clear = (rw clear.0 refl, clear)
 turns InError (Sub m) p ss st n lines clear =
-    elim (m == 1) as (λ b. Turns InError (Sub m) (record { section = InError; proofs = p; subs = ss; steps = st }) n lines (cond b (Some (InSub 1)) None))
+    elim (m == 1) as (λ b. Turns InError (Sub m)
+    (record { section = InError; proofs = p; subs = ss; steps = st }) n lines (cond b (Some (InSub 1)) None))
     [ true ↦ (rw clear.1 refl, tt) | false ↦ tt ]
 turns InError Path p ss st n lines clear = (rw (clear.0, clear.1) refl, tt)
 turns (InSub k) (Sub m) p ss st n lines clear =
-    elim (m == k + 1) as (λ b. Turns (InSub k) (Sub m) (record { section = InSub k; proofs = p; subs = ss; steps = st }) n lines (cond b (Some (InSub m)) None))
+    elim (m == k + 1) as (λ b. Turns (InSub k) (Sub m)
+    (record { section = InSub k; proofs = p; subs = ss; steps = st }) n lines (cond b (Some (InSub m)) None))
     [ true ↦ (simp (append_assoc, append-nil), tt) | false ↦ tt ]
 turns (InSub k) Path p ss st n lines clear = (simp append-nil, tt)
 turns (InSub k) (Take e) p ss st n lines clear = (simp append_assoc, tt)
 turns (InSub k) (Through m) p ss st n lines clear = (simp append_assoc, tt)
 turns InPath Error p ss st n lines clear = (simp (append_assoc, append-nil, add-zero), (refl, refl))
-turns InPath (Take e) p ss st n lines clear = (simp append_assoc (rw (past n (length (steps_at (n + 1) lines))) refl), tt)
-turns InPath (Through m) p ss st n lines clear = (simp append_assoc (rw (past n (length (steps_at (n + 1) lines))) refl), tt)
+turns InPath (Take e) p ss st n lines clear =
+    (simp append_assoc (rw (past n (length (steps_at (n + 1) lines))) refl), tt)
+turns InPath (Through m) p ss st n lines clear =
+    (simp append_assoc (rw (past n (length (steps_at (n + 1) lines))) refl), tt)
 turns Start Error p ss st n lines clear = tt
 turns Start (Sub m) p ss st n lines clear = tt
 turns Start Path p ss st n lines clear = tt
@@ -90,17 +98,21 @@ pub record Stands (edges : ℕ) (all : List Line) (held : Held) (n : ℕ) (lines
   pub proofs_is : goes_on held.section held n lines ≡ proofs_in all
 
 -- one more line
-pub stands_behind : (edges : ℕ) (all : List Line) (held : Held) (n : ℕ) (line : Line) (lines : List Line) (to : Section) →
+pub stands_behind : (edges : ℕ) (all : List Line) (held : Held) (n : ℕ) (line : Line) (lines : List Line)
+    (to : Section) →
     Stands edges all held n (line ∷ lines) → next held.section line ≡ Some to → is_unknown edges line ≡ false →
     Stands edges all (record (keep_line n line held) { section = to }) (n + 1) lines
 stands_behind edges all held n line lines to stands follows known =
     let turn : Turns held.section line held n lines (Some to) =
-    subst (λ (o : Option Section). Turns held.section line held n lines o) follows (turns held.section line held.proofs held.subs held.steps n lines stands.clear) in
+    subst (λ (o : Option Section). Turns held.section line held n lines o) follows
+    (turns held.section line held.proofs held.subs held.steps n lines stands.clear) in
     let fault : fault_behind edges n line (Some to) (λ s. fault_from edges s (n + 1) lines) ≡ report_fault edges all =
-    subst (λ (o : Option Section). fault_behind edges n line o (λ s. fault_from edges s (n + 1) lines) ≡ report_fault edges all) follows stands.fault_is in
+    subst (λ (o : Option Section). fault_behind edges n line o (λ s. fault_from edges s (n + 1) lines)
+    ≡ report_fault edges all) follows stands.fault_is in
     record {
       clear = cleared to (keep_line n line held) turn.1;
-      fault_is = subst (λ (b : Bool). cond b (Some (NoSuchConstraint n)) (fault_from edges to (n + 1) lines) ≡ report_fault edges all) known fault;
+      fault_is = subst (λ (b : Bool). cond b (Some (NoSuchConstraint n)) (fault_from edges to (n + 1) lines)
+          ≡ report_fault edges all) known fault;
       proofs_is = moved to (keep_line n line held) (n + 1) lines ∙ turn.0 ∙ stands.proofs_is;
     }
 
@@ -110,7 +122,8 @@ pub lines_of-line : (text line behind : List ℕ)
     → lines_of text ≡ line_kind line ∷ lines_of behind
 lines_of-line text line behind parts =
     let rest = split_parts (λ b. b == 10) behind in
-    ap lines_in parts ∙ ap (λ pieces. lines_in (line ∷ pieces)) rest.2 ∙ ap (λ pieces. line_kind line ∷ lines_in pieces) (sym rest.2)
+    ap lines_in parts ∙ ap (λ pieces. lines_in (line ∷ pieces)) rest.2
+    ∙ ap (λ pieces. line_kind line ∷ lines_in pieces) (sym rest.2)
 
 pub lines_of-whole : (text : List ℕ) → slice_split (λ b. b == 10) text ≡ text ∷ []
     → lines_of text ≡ (if bytes_eq text [] then [] else Other ∷ [])
@@ -127,16 +140,21 @@ no_other InPath = refl
 
 -- the reader stands before the first line of what is left
 pub stands_before : (edges : ℕ) (all : List Line) (held : Held) (n : ℕ) (text line behind : List ℕ) (kind : Line) →
-    Stands edges all held n (lines_of text) → slice_split (λ b. b == 10) text ≡ line ∷ slice_split (λ b. b == 10) behind → kind ≡ line_kind line →
+    Stands edges all held n (lines_of text) → slice_split (λ b. b == 10) text ≡ line ∷ slice_split (λ b. b == 10) behind
+    → kind ≡ line_kind line →
     Stands edges all held n (kind ∷ lines_of behind)
 stands_before edges all held n text line behind kind stands parts is =
-    subst (λ (lines : List Line). Stands edges all held n lines) (lines_of-line text line behind parts ∙ ap (λ k. k ∷ lines_of behind) (sym is)) stands
+    subst (λ (lines : List Line). Stands edges all held n lines)
+    (lines_of-line text line behind parts ∙ ap (λ k. k ∷ lines_of behind) (sym is)) stands
 
 -- a line that fails is the first that does
-pub fails_here : (edges : ℕ) (all : List Line) (held : Held) (n : ℕ) (line : Line) (lines : List Line) (e : ReportFault) →
-    Stands edges all held n (line ∷ lines) → (e ≡ NoMemory) ⊎ FailsAt edges held.section n line e → (e ≡ NoMemory) ⊎ (report_fault edges all ≡ Some e)
+pub fails_here : (edges : ℕ) (all : List Line) (held : Held) (n : ℕ) (line : Line) (lines : List Line)
+    (e : ReportFault) →
+    Stands edges all held n (line ∷ lines) → (e ≡ NoMemory) ⊎ FailsAt edges held.section n line e
+    → (e ≡ NoMemory) ⊎ (report_fault edges all ≡ Some e)
 fails_here edges all held n line lines e stands (inl out) = inl out
-fails_here edges all held n line lines e stands (inr fails) = inr (sym stands.fault_is ∙ fails (λ s. fault_from edges s (n + 1) lines))
+fails_here edges all held n line lines e stands (inr fails) =
+    inr (sym stands.fault_is ∙ fails (λ s. fault_from edges s (n + 1) lines))
 
 -- a line that was taken leaves the reader behind it
 pub takes_here : (edges : ℕ) (all : List Line) (old new : Held) (n : ℕ) (line : Line) (lines : List Line) →

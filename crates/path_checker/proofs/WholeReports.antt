@@ -35,20 +35,23 @@ module _ (edges : ℕ) where
   subs_pass section j opens ends (steps ∷ subs) behind named passes n =
       rw opens
       (steps_pass (InSub j) (λ m. refl) (λ m. refl) steps (sub_lines (j + 1) subs (Path ∷ behind)) named.0
-      (subs_pass (InSub j) (j + 1) (let same : (j + 1 == j + 1) ≡ true = grind arith in rw same refl) refl subs behind named.1 passes) (n + 1))
+      (subs_pass (InSub j) (j + 1)
+      (let same : (j + 1 == j + 1) ≡ true = grind arith in rw same refl) refl subs behind named.1 passes) (n + 1))
 
   errors_pass : (errors : List WrittenError) → ErrorsAreNamed edges errors → Passes edges InPath (error_lines errors)
   errors_pass [] named n = refl
   errors_pass (e ∷ errors) named n =
       subs_pass InError 1 refl refl e.subs (step_lines e.main (error_lines errors)) named.0
-      (steps_pass InPath (λ m. refl) (λ m. refl) e.main (error_lines errors) named.1 (errors_pass errors named.2)) (n + 1)
+      (steps_pass InPath (λ m. refl) (λ m. refl) e.main (error_lines errors) named.1
+      (errors_pass errors named.2)) (n + 1)
 
   pub report_passes : (lines : List Line) → IsReport edges lines → report_fault edges lines ≡ None
   report_passes lines is =
       let e = is.first in
       rw is.lines_are
       (subs_pass InError 1 refl refl e.subs (step_lines e.main (error_lines is.others)) is.named.0
-      (steps_pass InPath (λ m. refl) (λ m. refl) e.main (error_lines is.others) is.named.1 (errors_pass is.others is.named.2)) 3)
+      (steps_pass InPath (λ m. refl) (λ m. refl) e.main (error_lines is.others) is.named.1
+      (errors_pass is.others is.named.2)) 3)
 
   -- what is left of a report in a section
   pub record PathLeft (lines : List Line) : Type 0 where
@@ -74,13 +77,16 @@ module _ (edges : ℕ) where
 
   abbrev Left : Section → List Line → Type 0
   Left Start lines = IsReport edges lines
-  Left Opened lines = (e : WrittenError) × (errors : List WrittenError) × (lines ≡ error_lines (e ∷ errors)) × ErrorsAreNamed edges (e ∷ errors)
+  Left Opened lines =
+      (e : WrittenError) × (errors : List WrittenError) × (lines ≡ error_lines (e ∷ errors))
+      × ErrorsAreNamed edges (e ∷ errors)
   Left InError lines = SubsLeft 1 lines
   Left (InSub j) lines = SubLeft j lines
   Left InPath lines = PathLeft lines
 
   error_left : (lines : List Line) → SubsLeft 1 lines →
-      (e : WrittenError) × (errors : List WrittenError) × (Error ∷ lines ≡ error_lines (e ∷ errors)) × ErrorsAreNamed edges (e ∷ errors)
+      (e : WrittenError) × (errors : List WrittenError) × (Error ∷ lines ≡ error_lines (e ∷ errors))
+      × ErrorsAreNamed edges (e ∷ errors)
   error_left lines left = (
     record { subs = left.subs; main = left.left.steps },
     left.left.errors,
@@ -100,7 +106,8 @@ module _ (edges : ℕ) where
       subst (λ (k : ℕ). SubsLeft k (Sub m ∷ lines)) same here
 
   sub_goes_on : (j : ℕ) (lines : List Line) (line : Line) (step : Written)
-      → ((steps : List Written) (behind : List Line) → step_lines (step ∷ steps) behind ≡ line ∷ step_lines steps behind) →
+      → ((steps : List Written) (behind : List Line)
+      → step_lines (step ∷ steps) behind ≡ line ∷ step_lines steps behind) →
       ((steps : List Written) → AreNamed edges steps → AreNamed edges (step ∷ steps)) → SubLeft j lines
       → SubLeft j (line ∷ lines)
   sub_goes_on j lines line step is named left = record {
@@ -112,7 +119,8 @@ module _ (edges : ℕ) where
   }
 
   path_goes_on : (lines : List Line) (line : Line) (step : Written)
-      → ((steps : List Written) (behind : List Line) → step_lines (step ∷ steps) behind ≡ line ∷ step_lines steps behind) →
+      → ((steps : List Written) (behind : List Line)
+      → step_lines (step ∷ steps) behind ≡ line ∷ step_lines steps behind) →
       ((steps : List Written) → AreNamed edges steps → AreNamed edges (step ∷ steps)) → PathLeft lines
       → PathLeft (line ∷ lines)
   path_goes_on lines line step is named left = record {
@@ -145,12 +153,15 @@ module _ (edges : ℕ) where
   left_of [] (InSub j) n h = absurd cc
   left_of [] InPath n h = record { steps = []; errors = []; lines_are = refl; steps_named = tt; errors_named = tt }
   left_of (Rejected ∷ lines) Start n h =
-      let left = left_of lines Opened (n + 1) h in record { first = left.0; others = left.1; lines_are = ap (λ ls. Rejected ∷ ls) left.2; named = left.3 }
+      let left = left_of lines Opened (n + 1) h in
+      record { first = left.0; others = left.1; lines_are = ap (λ ls. Rejected ∷ ls) left.2; named = left.3 }
   left_of (Error ∷ lines) Opened n h = error_left lines (left_of lines InError (n + 1) h)
   left_of (Sub m ∷ lines) InError n h =
       by_number 1 m n (InSub 1) (λ s. fault_from edges s (n + 1) lines) (m == 1) refl h
-      (λ same passes. sub_opens 1 m lines same (subst (λ (k : ℕ). SubLeft k lines) (sym same) (left_of lines (InSub 1) (n + 1) passes)))
-  left_of (Path ∷ lines) InError n h = record { subs = []; behind = lines; lines_are = refl; subs_named = tt; left = left_of lines InPath (n + 1) h }
+      (λ same passes.
+      sub_opens 1 m lines same (subst (λ (k : ℕ). SubLeft k lines) (sym same) (left_of lines (InSub 1) (n + 1) passes)))
+  left_of (Path ∷ lines) InError n h =
+      record { subs = []; behind = lines; lines_are = refl; subs_named = tt; left = left_of lines InPath (n + 1) h }
   left_of (Sub m ∷ lines) (InSub j) n h =
       by_number (j + 1) m n (InSub m) (λ s. fault_from edges s (n + 1) lines) (m == j + 1) refl h
       (λ same passes. record {
@@ -165,21 +176,26 @@ module _ (edges : ℕ) where
     behind = Path ∷ lines;
     lines_are = refl;
     steps_named = tt;
-    left = record { subs = []; behind = lines; lines_are = refl; subs_named = tt; left = left_of lines InPath (n + 1) h };
+    left =
+        record { subs = []; behind = lines; lines_are = refl; subs_named = tt; left = left_of lines InPath (n + 1) h };
   }
   left_of (Take m ∷ lines) (InSub j) n h =
       by_name m n (fault_from edges (InSub j) (n + 1) lines) (not (nat_lt m edges)) refl h
-      (λ below passes. sub_goes_on j lines (Take m) (by_constraint m) (λ steps behind. refl) (λ steps named. (below, named)) (left_of lines (InSub j) (n + 1) passes))
+      (λ below passes. sub_goes_on j lines (Take m) (by_constraint m) (λ steps behind. refl)
+      (λ steps named. (below, named)) (left_of lines (InSub j) (n + 1) passes))
   left_of (Through m ∷ lines) (InSub j) n h =
-      sub_goes_on j lines (Through m) (by_sub_path m) (λ steps behind. refl) (λ steps named. named) (left_of lines (InSub j) (n + 1) h)
+      sub_goes_on j lines (Through m) (by_sub_path m) (λ steps behind. refl) (λ steps named. named)
+      (left_of lines (InSub j) (n + 1) h)
   left_of (Error ∷ lines) InPath n h =
       let left = error_left lines (left_of lines InError (n + 1) h) in
       record { steps = []; errors = left.0 ∷ left.1; lines_are = left.2; steps_named = tt; errors_named = left.3 }
   left_of (Take m ∷ lines) InPath n h =
       by_name m n (fault_from edges InPath (n + 1) lines) (not (nat_lt m edges)) refl h
-      (λ below passes. path_goes_on lines (Take m) (by_constraint m) (λ steps behind. refl) (λ steps named. (below, named)) (left_of lines InPath (n + 1) passes))
+      (λ below passes. path_goes_on lines (Take m) (by_constraint m) (λ steps behind. refl)
+      (λ steps named. (below, named)) (left_of lines InPath (n + 1) passes))
   left_of (Through m ∷ lines) InPath n h =
-      path_goes_on lines (Through m) (by_sub_path m) (λ steps behind. refl) (λ steps named. named) (left_of lines InPath (n + 1) h)
+      path_goes_on lines (Through m) (by_sub_path m) (λ steps behind. refl) (λ steps named. named)
+      (left_of lines InPath (n + 1) h)
   left_of (Error ∷ lines) Start n h = absurd cc
   left_of (Sub m ∷ lines) Start n h = absurd cc
   left_of (Path ∷ lines) Start n h = absurd cc

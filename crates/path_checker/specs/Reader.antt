@@ -24,7 +24,8 @@ close_sub _ held = held
 -- a main path that was being read is whole, and its proof too, which ends before line n
 abbrev pub close_proof : Section → ℕ → Held → Held
 close_proof InPath n held =
-    record held { proofs = held.proofs ++ record { subs = held.subs; main = held.steps; end = n } ∷ []; subs = []; steps = [] }
+    record held
+    { proofs = held.proofs ++ record { subs = held.subs; main = held.steps; end = n } ∷ []; subs = []; steps = [] }
 close_proof _ n held = held
 
 -- what line n adds
@@ -42,12 +43,19 @@ abbrev pub goes_on : Section → Held → ℕ → List Line → List Steps
 goes_on Start held n lines = held.proofs ++ proofs_at n lines
 goes_on Opened held n lines = held.proofs ++ proofs_at n lines
 goes_on InError held n lines =
-    held.proofs ++ record { subs = held.subs ++ subs_at n lines; main = main_at n lines; end = end_at n lines } ∷ proofs_at n lines
+    held.proofs ++ record { subs = held.subs ++ subs_at n lines; main = main_at n lines; end = end_at n lines }
+    ∷ proofs_at n lines
 goes_on (InSub k) held n lines =
     held.proofs
-    ++ record { subs = held.subs ++ (held.steps ++ steps_at n lines) ∷ subs_at n lines; main = main_at n lines; end = end_at n lines } ∷ proofs_at n lines
+    ++ record {
+      subs = held.subs ++ (held.steps ++ steps_at n lines) ∷ subs_at n lines;
+      main = main_at n lines;
+      end = end_at n lines;
+    } ∷ proofs_at n lines
 goes_on InPath held n lines =
-    held.proofs ++ record { subs = held.subs; main = held.steps ++ steps_at n lines; end = n + length (steps_at n lines) } ∷ proofs_at n lines
+    held.proofs
+    ++ record { subs = held.subs; main = held.steps ++ steps_at n lines; end = n + length (steps_at n lines) }
+    ∷ proofs_at n lines
 
 -- no part is held where none is being read
 abbrev pub IsClear : Section → Held → Type 0
@@ -63,4 +71,5 @@ pub record Takes (edges n : ℕ) (line : Line) (old new : Held) : Type 0 where
 
 -- line n is the first that fails, whatever stands behind it
 abbrev pub FailsAt : ℕ → Section → ℕ → Line → ReportFault → Type 0
-FailsAt edges section n line fault = (behind : Section → Option ReportFault) → fault_behind edges n line (next section line) behind ≡ Some fault
+FailsAt edges section n line fault =
+    (behind : Section → Option ReportFault) → fault_behind edges n line (next section line) behind ≡ Some fault

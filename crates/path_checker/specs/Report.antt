@@ -50,13 +50,15 @@ is_unknown edges _ = false
 -- what fails at line n, or else behind it
 abbrev pub fault_behind : ℕ → ℕ → Line → Option Section → (Section → Option ReportFault) → Option ReportFault
 fault_behind edges n line None behind = Some (Grammar n)
-fault_behind edges n line (Some section) behind = if is_unknown edges line then Some (NoSuchConstraint n) else behind section
+fault_behind edges n line (Some section) behind =
+    if is_unknown edges line then Some (NoSuchConstraint n) else behind section
 
 -- The first line that may not stand where it does or that names no constraint, of lines from number n on. Where the end
 -- comes too soon, it is the line behind the last.
 abbrev pub fault_from : ℕ → Section → ℕ → List Line → Option ReportFault
 fault_from edges section n [] = if may_end section then None else Some (Grammar n)
-fault_from edges section n (line ∷ lines) = fault_behind edges n line (next section line) (λ s. fault_from edges s (n + 1) lines)
+fault_from edges section n (line ∷ lines) =
+    fault_behind edges n line (next section line) (λ s. fault_from edges s (n + 1) lines)
 
 -- the first line of a report that fails
 abbrev pub report_fault : ℕ → List Line → Option ReportFault
@@ -93,7 +95,8 @@ end_at n (_ ∷ lines) = end_at (n + 1) lines
 abbrev pub proofs_at : ℕ → List Line → List Steps
 proofs_at n [] = []
 proofs_at n (Error ∷ lines) =
-    record { subs = subs_at (n + 1) lines; main = main_at (n + 1) lines; end = end_at (n + 1) lines } ∷ proofs_at (n + 1) lines
+    record { subs = subs_at (n + 1) lines; main = main_at (n + 1) lines; end = end_at (n + 1) lines }
+    ∷ proofs_at (n + 1) lines
 proofs_at n (_ ∷ lines) = proofs_at (n + 1) lines
 
 -- the path proofs of a whole report

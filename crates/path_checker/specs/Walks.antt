@@ -5,14 +5,14 @@ use Rattle.lattice_core.specs.View.{LatticeView}
 use Rattle.flow_graph.specs.declared.proof.PathStep.{PathStep}
 use Rattle.flow_graph.specs.declared.proof.BadStep.{BadStep}
 use Rattle.flow_graph.specs.declared.proof.Why.{Why}
-use Rattle.flow_graph.specs.declared.place.Path.{Path}
-use Rattle.flow_graph.specs.declared.place.Path.TheVariants.{Sub}
-use Rattle.flow_graph.specs.declared.place.Place.{Place}
-use Rattle.flow_graph.specs.declared.place.Seen.{Seen}
-use Rattle.flow_graph.specs.declared.place.Seen.TheVariants.{Edge}
+use Rattle.flow_graph.specs.declared.step.Path.{Path}
+use Rattle.flow_graph.specs.declared.step.Path.TheVariants.{Sub}
+use Rattle.flow_graph.specs.declared.step.StepInPath.{StepInPath}
+use Rattle.flow_graph.specs.declared.step.Seen.{Seen}
+use Rattle.flow_graph.specs.declared.step.Seen.TheVariants.{Edge}
 use Rattle.flow_graph.specs.System.{System}
 use Rattle.flow_graph.specs.PathRules.{rule_at}
-use Rattle.flow_graph.specs.PathProofs.{fault_or, home_of, line_of, look, no_order, or_else, place}
+use Rattle.flow_graph.specs.PathProofs.{fault_or, home_of, line_of, look, no_order, or_else, in_path}
 use Rattle.flow_graph.specs.Walks.{constant_to, walk_rule_at}
 use Rattle.path_checker.specs.Orders.{order_at}
 
@@ -21,8 +21,8 @@ abbrev pub order_for : Option (List LatticeView) → ℕ → Order
 order_for (Some lattices) number = order_at lattices number
 order_for None number = no_order
 
--- the first rule that fails at a place
-abbrev pub rule_for : System → Option (List LatticeView) → Place → Option Why
+-- the first rule that fails at a step
+abbrev pub rule_for : System → Option (List LatticeView) → StepInPath → Option Why
 rule_for sys (Some lattices) p = rule_at sys (order_at lattices p.lattice) p
 rule_for sys None p = walk_rule_at sys p
 
@@ -36,7 +36,7 @@ abbrev pub faults_for : System → Option (List LatticeView) → Path → ℕ �
     → List PathStep → Option BadStep
 faults_for sys lattices path lattice elem see before [] = None
 faults_for sys lattices path lattice elem see before (s ∷ steps) =
-    fault_or (rule_for sys lattices (place sys path lattice elem before (see s) (map see steps))) (line_of s)
+    fault_or (rule_for sys lattices (in_path sys path lattice elem before (see s) (map see steps))) (line_of s)
     (faults_for sys lattices path lattice elem see (see s ∷ before) steps)
 
 -- the first step that fails of sub-paths that come behind earlier ones

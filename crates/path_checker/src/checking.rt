@@ -3,7 +3,7 @@
 ghost use Rattle.std.specs.Prelude.{◌≡◌, ◌↔◌, [], ◌∷◌, None, Some, IsOk, IfErr, OnOk, map, slice_get};
 ghost use Rattle.std.specs.Prelude.{option_map};
 ghost use Rattle.lattice_core.specs.Order.{leq};
-ghost use Rattle.flow_graph.specs.declared.place.Seen.TheVariants.{Edge};
+ghost use Rattle.flow_graph.specs.declared.step.Seen.TheVariants.{Edge};
 ghost use Rattle.flow_graph.specs.System.{IsWellOwned};
 ghost use Rattle.flow_graph.specs.Unfolding.{NamesElements, IsAccepted};
 ghost use Rattle.flow_graph.specs.PathRules.{begins, ends, is_kept, rule_at};
@@ -23,8 +23,8 @@ use crate::rules::{
     is_unmatched_enter,
 };
 use flow_graph::{
-    BadStep, Constraint, FlowGraph, Link, Path, PathProof, PathStep, Place, Seen, SubPath, Walk,
-    Why,
+    BadStep, Constraint, FlowGraph, Link, Path, PathProof, PathStep, Seen, StepInPath, SubPath,
+    Walk, Why,
 };
 use flow_laws::{holds_is_unmet, holds_rejects};
 use lattice_core::Lattices;
@@ -67,9 +67,9 @@ fn is_kept(lattices: Option<&Lattices>, lattice: LatticeNo, elem: Elem, step: &S
     }
 }
 
-/// The first rule that fails at a place.
+/// The first rule that fails at a step.
 #[tactic(auto, unfolding(flow_graph::specs::PathRules::rule_at))]
-fn rule_at(graph: &FlowGraph, lattices: Option<&Lattices>, p: &Place) -> Option<Why>
+fn rule_at(graph: &FlowGraph, lattices: Option<&Lattices>, p: &StepInPath) -> Option<Why>
     ensures { result
         ≡ rule_at graph.now (order_for (option_map (λ l. l.now) lattices.entry) p.now.lattice) p.now }
 {
@@ -97,8 +97,8 @@ fn rule_at(graph: &FlowGraph, lattices: Option<&Lattices>, p: &Place) -> Option<
     None
 }
 
-/// The first rule that fails at a place of a path proof over lattices; with none, of a walk, in which no bound may stand.
-fn rule_for(graph: &FlowGraph, lattices: Option<&Lattices>, p: &Place) -> Option<Why>
+/// The first rule that fails at a step of a path proof over lattices; with none, of a walk, in which no bound may stand.
+fn rule_for(graph: &FlowGraph, lattices: Option<&Lattices>, p: &StepInPath) -> Option<Why>
     ensures { result ≡ rule_for graph.now (option_map (λ l. l.now) lattices.entry) p.now }
 {
     if lattices.is_none() && is_bound(&p.step) {
@@ -205,8 +205,8 @@ fn ends_with_nobody(graph: &FlowGraph, step: &Seen) -> bool
     }
 }
 
-/// Whether an unmatched `Enter` stands at a place or before it, with no variable of nobody since.
-fn stays_in_call(graph: &FlowGraph, p: &Place) -> bool
+/// Whether an unmatched `Enter` is a step or stands before it, with no variable of nobody since.
+fn stays_in_call(graph: &FlowGraph, p: &StepInPath) -> bool
     ensures { result ≡ stays_in_call graph.now p.now }
 {
     !ends_with_nobody(graph, &p.step) && (is_unmatched_enter(p) || p.in_call)
@@ -284,7 +284,7 @@ fn path_fault(
     let mut one_before = before(lattice, from);
     let mut in_call = false;
     'steps: while let Some((first, after)) = rest.split_first() {
-        let place = Place {
+        let here = StepInPath {
             path: *path,
             two_before,
             one_before,
@@ -294,15 +294,15 @@ fn path_fault(
             lattice,
             elem,
         };
-        if let Some(why) = rule_for(graph, lattices, &place) {
+        if let Some(why) = rule_for(graph, lattices, &here) {
             return Some(BadStep {
                 line: line_of(first),
                 why,
             });
         }
-        in_call = stays_in_call(graph, &place);
-        two_before = place.one_before;
-        one_before = Some(place.step);
+        in_call = stays_in_call(graph, &here);
+        two_before = here.one_before;
+        one_before = Some(here.step);
         rest = after;
     }
     None
@@ -351,7 +351,7 @@ fn start_fault(
     ensures { result ≡ start_fault graph.now
         (order_at lattices.now lattice) lattice elem (steps_of subs.now) first.now rest.now }
 {
-    let place = Place {
+    let here = StepInPath {
         path: Path::Main,
         two_before: None,
         one_before: None,
@@ -361,7 +361,7 @@ fn start_fault(
         lattice,
         elem,
     };
-    match rule_at(graph, Some(lattices), &place) {
+    match rule_at(graph, Some(lattices), &here) {
         Some(why) => Some(BadStep {
             line: line_of(first),
             why,

@@ -10,7 +10,7 @@ ghost use Rattle.flow_graph.specs.PathRules.{is_late_return, is_unmatched_in_sub
 ghost use Rattle.flow_graph.specs.PathRules.{follows_bound, fails_b1, fails_b2, fails_b3};
 ghost use Rattle.flow_graph.specs.PathRules.{is_missing, is_foreign, is_outside};
 
-use flow_graph::{Constraint, FlowGraph, Link, Path, Place, Seen};
+use flow_graph::{Constraint, FlowGraph, Link, Path, Seen, StepInPath};
 use qual_base::{LatticeNo, Owner, SiteId, VarId};
 
 /// The variable where a step begins. A constant begins nowhere.
@@ -161,7 +161,7 @@ fn begins_group(step: &Seen, after: &Option<Seen>) -> bool
 }
 
 #[tactic(auto, unfolding(flow_graph::specs::PathRules::is_after_sub))]
-fn is_after_sub(p: &Place) -> bool
+fn is_after_sub(p: &StepInPath) -> bool
     ensures { result ≡ is_after_sub p.now }
 {
     match &p.one_before {
@@ -171,70 +171,70 @@ fn is_after_sub(p: &Place) -> bool
 }
 
 #[tactic(auto, unfolding(flow_graph::specs::PathRules::closes))]
-fn closes(p: &Place) -> bool
+fn closes(p: &StepInPath) -> bool
     ensures { result ≡ closes p.now }
 {
     agree(site_entered(&p.one_before), leaves(&p.step))
 }
 
 #[tactic(auto, unfolding(flow_graph::specs::PathRules::is_unmatched_enter))]
-pub fn is_unmatched_enter(p: &Place) -> bool
+pub fn is_unmatched_enter(p: &StepInPath) -> bool
     ensures { result ≡ is_unmatched_enter p.now }
 {
     enters(&p.step).is_some() && !begins_group(&p.step, &p.one_after) && !is_after_sub(p)
 }
 
 #[tactic(auto, unfolding(flow_graph::specs::PathRules::is_unmatched_leave))]
-fn is_unmatched_leave(p: &Place) -> bool
+fn is_unmatched_leave(p: &StepInPath) -> bool
     ensures { result ≡ is_unmatched_leave p.now }
 {
     leaves(&p.step).is_some() && !closes(p) && !is_after_sub(p)
 }
 
 #[tactic(auto, unfolding(flow_graph::specs::PathRules::is_headless))]
-fn is_headless(p: &Place) -> bool
+fn is_headless(p: &StepInPath) -> bool
     ensures { result ≡ is_headless p.now }
 {
     is_main(&p.path) && !p.one_before.is_some() && !is_const(&p.step)
 }
 
 #[tactic(auto, unfolding(flow_graph::specs::PathRules::is_late_const))]
-fn is_late_const(p: &Place) -> bool
+fn is_late_const(p: &StepInPath) -> bool
     ensures { result ≡ is_late_const p.now }
 {
     is_const(&p.step) && !(is_main(&p.path) && !p.one_before.is_some())
 }
 
 #[tactic(auto, unfolding(flow_graph::specs::PathRules::is_stray_bound))]
-fn is_stray_bound(p: &Place) -> bool
+fn is_stray_bound(p: &StepInPath) -> bool
     ensures { result ≡ is_stray_bound p.now }
 {
     is_bound(&p.step) && !is_main(&p.path)
 }
 
 #[tactic(auto, unfolding(flow_graph::specs::PathRules::is_late_return))]
-fn is_late_return(p: &Place) -> bool
+fn is_late_return(p: &StepInPath) -> bool
     ensures { result ≡ is_late_return p.now }
 {
     is_main(&p.path) && is_unmatched_leave(p) && p.in_call
 }
 
 #[tactic(auto, unfolding(flow_graph::specs::PathRules::is_unmatched_in_sub))]
-fn is_unmatched_in_sub(p: &Place) -> bool
+fn is_unmatched_in_sub(p: &StepInPath) -> bool
     ensures { result ≡ is_unmatched_in_sub p.now }
 {
     !is_main(&p.path) && (is_unmatched_enter(p) || is_unmatched_leave(p))
 }
 
 #[tactic(auto, unfolding(flow_graph::specs::PathRules::is_loose_sub))]
-fn is_loose_sub(p: &Place) -> bool
+fn is_loose_sub(p: &StepInPath) -> bool
     ensures { result ≡ is_loose_sub p.now }
 {
     is_sub(&p.step) && !site_entered(&p.one_before).is_some() && !is_after_sub(p)
 }
 
 #[tactic(auto, unfolding(flow_graph::specs::PathRules::follows_bound))]
-fn follows_bound(p: &Place) -> bool
+fn follows_bound(p: &StepInPath) -> bool
     ensures { result ≡ follows_bound p.now }
 {
     match &p.one_before {
@@ -245,7 +245,7 @@ fn follows_bound(p: &Place) -> bool
 
 /// Rule B1: the step is none that may stand there.
 #[tactic(auto, unfolding(flow_graph::specs::PathRules::fails_b1))]
-pub fn fails_b1(p: &Place) -> bool
+pub fn fails_b1(p: &StepInPath) -> bool
     ensures { result ≡ fails_b1 p.now }
 {
     is_unknown(&p.step)
@@ -260,7 +260,7 @@ pub fn fails_b1(p: &Place) -> bool
 
 /// Rule B2: the step does not begin at the variable where the one before ended.
 #[tactic(auto, unfolding(flow_graph::specs::PathRules::fails_b2))]
-pub fn fails_b2(p: &Place) -> bool
+pub fn fails_b2(p: &StepInPath) -> bool
     ensures { result ≡ fails_b2 p.now }
 {
     differ(end_of(&p.one_before), begins(&p.step))
@@ -268,7 +268,7 @@ pub fn fails_b2(p: &Place) -> bool
 
 /// Rule B3: the step after a group's sub-path does not leave the group's site, or there is none.
 #[tactic(auto, unfolding(flow_graph::specs::PathRules::fails_b3))]
-pub fn fails_b3(p: &Place) -> bool
+pub fn fails_b3(p: &StepInPath) -> bool
     ensures { result ≡ fails_b3 p.now }
 {
     is_after_sub(p) && !agree(site_entered(&p.two_before), leaves(&p.step))

@@ -24,7 +24,8 @@ looked_up (entry ∷ entries) word = rw (looked_up entries word) refl
 -- an entry for a word without meaning goes behind
 pub put_behind : (entries : List Entry) (key : Vec ℕ Global) (value : ℕ × ℕ) →
     meaning_of (map pair_of entries) key.items ≡ None →
-    map pair_of (insert_entry (λ a b. bytes_eq a.items b.items) entries key value) ≡ map pair_of entries ++ (key.items, value) ∷ []
+    map pair_of (insert_entry (λ a b. bytes_eq a.items b.items) entries key value) ≡ map pair_of entries
+    ++ (key.items, value) ∷ []
 put_behind [] key value none = refl
 put_behind (entry ∷ entries) key value none =
     chosen (bytes_eq key.items entry.0.items) entry.1 (meaning_of (map pair_of entries) key.items)
@@ -32,7 +33,8 @@ put_behind (entry ∷ entries) key value none =
     (map pair_of (entry ∷ entries) ++ (key.items, value) ∷ [])
     (λ rest. ap (λ (pairs : List (List ℕ × (ℕ × ℕ))). pair_of entry ∷ pairs) (put_behind entries key value rest)) none
   where
-    chosen : (b : Bool) (meaning : ℕ × ℕ) (rest : Option (ℕ × ℕ)) (here on : List Entry) (pairs : List (List ℕ × (ℕ × ℕ))) →
+    chosen : (b : Bool) (meaning : ℕ × ℕ) (rest : Option (ℕ × ℕ)) (here on : List Entry)
+        (pairs : List (List ℕ × (ℕ × ℕ))) →
         (rest ≡ None → map pair_of on ≡ pairs) → (if b then Some meaning else rest) ≡ None
         → map pair_of (if b then here else on) ≡ pairs
     chosen true meaning rest here on pairs next none = cc
@@ -43,10 +45,12 @@ pub stays : (pairs others : List (List ℕ × (ℕ × ℕ))) (word : List ℕ) �
     is_some (meaning_of pairs word) ≡ true → meaning_of (pairs ++ others) word ≡ meaning_of pairs word
 stays [] others word some = cc
 stays (pair ∷ pairs) others word some =
-    chosen (bytes_eq word pair.0) pair.1 (meaning_of pairs word) (meaning_of (pairs ++ others) word) (stays pairs others word) some
+    chosen (bytes_eq word pair.0) pair.1 (meaning_of pairs word) (meaning_of (pairs ++ others) word)
+    (stays pairs others word) some
   where
     chosen : (b : Bool) (meaning : ℕ × ℕ) (rest longer : Option (ℕ × ℕ)) → (is_some rest ≡ true → longer ≡ rest) →
-        is_some (if b then Some meaning else rest) ≡ true → (if b then Some meaning else longer) ≡ (if b then Some meaning else rest)
+        is_some (if b then Some meaning else rest) ≡ true
+        → (if b then Some meaning else longer) ≡ (if b then Some meaning else rest)
     chosen true meaning rest longer next some = refl
     chosen false meaning rest longer next some = next some
 
@@ -67,11 +71,14 @@ unchanged pairs pair some word = by_test (bytes_eq word pair.0) refl
         let e : word ≡ pair.0 = (bytes_eq-Decides word pair.0).0 same in sym (stays pairs (pair ∷ []) word (rw e some))
 
 -- with no meaning for its word the pair goes behind, and changes the meaning as it does behind all
-pub put_new : (entries after : List Entry) (pairs : List (List ℕ × (ℕ × ℕ))) (key : Vec ℕ Global) (word : List ℕ) (value : ℕ × ℕ) →
-    map pair_of entries ≡ pairs → after ≡ insert_entry (λ a b. bytes_eq a.items b.items) entries key value → key.items ≡ word →
+pub put_new : (entries after : List Entry) (pairs : List (List ℕ × (ℕ × ℕ))) (key : Vec ℕ Global) (word : List ℕ)
+    (value : ℕ × ℕ) →
+    map pair_of entries ≡ pairs → after ≡ insert_entry (λ a b. bytes_eq a.items b.items) entries key value
+    → key.items ≡ word →
     is_some (meaning_of pairs word) ≡ false → map pair_of after ≡ pairs ++ (word, value) ∷ []
 put_new entries after pairs key word value view put copied new =
-    ap (map pair_of) put ∙ put_behind entries key value (none_of (meaning_of (map pair_of entries) key.items) (rw (view, copied) new)) ∙ rw (view, copied) refl
+    ap (map pair_of) put ∙ put_behind entries key value
+    (none_of (meaning_of (map pair_of entries) key.items) (rw (view, copied) new)) ∙ rw (view, copied) refl
   where
     none_of : (meaning : Option (ℕ × ℕ)) → is_some meaning ≡ false → meaning ≡ None
     none_of None new = refl

@@ -8,13 +8,13 @@ use Rattle.qual_types.specs.declared.position.Step.{Step}
 use Rattle.qual_types.specs.declared.position.Step.TheVariants as steps
 use Rattle.qual_types.specs.declared.row.Node.{Node}
 use Rattle.qual_types.specs.declared.row.Node.TheVariants as nodes
-use Rattle.qual_types.specs.declared.row.Place.{Place}
-use Rattle.qual_types.specs.declared.row.Place.TheVariants.{OfNobody, OfFunction, Inside, Param, Result, Ellipsis}
-use Rattle.qual_types.specs.declared.row.Row.{Row}
+use Rattle.qual_types.specs.declared.row.Parent.{Parent}
+use Rattle.qual_types.specs.declared.row.Parent.TheVariants.{OfNobody, OfFunction, Inside, Param, Result, Ellipsis}
+use Rattle.qual_types.specs.declared.row.VarRow.{VarRow}
 use Rattle.qual_types.specs.Skel.{Skel, flat, ref, fun, Skels, no_skels, more_skels, no_skeleton, numbered_ellipsis}
 
 -- the constructor around a part, and the step from there
-abbrev pub above : Place → Option (ℕ × Step)
+abbrev pub above : Parent → Option (ℕ × Step)
 above (OfNobody unit token) = None
 above (OfFunction unit token f) = None
 above (Inside of) = Some (of, steps.Inside)
@@ -23,7 +23,7 @@ above (Result of e) = Some (of, steps.Result)
 above (Ellipsis of) = Some (of, steps.Ellipsis)
 
 -- the owner that a skeleton's root has
-abbrev pub owner_set : Place → Option Owner
+abbrev pub owner_set : Parent → Option Owner
 owner_set (OfNobody unit token) = Some Nobody
 owner_set (OfFunction unit token f) = Some (Function f)
 owner_set (Inside of) = None
@@ -32,7 +32,7 @@ owner_set (Result of e) = None
 owner_set (Ellipsis of) = None
 
 -- the unit and the token that a skeleton's root has
-abbrev pub mark_set : Place → Option (ℕ × ℕ)
+abbrev pub mark_set : Parent → Option (ℕ × ℕ)
 mark_set (OfNobody unit token) = Some (unit, token)
 mark_set (OfFunction unit token f) = Some (unit, token)
 mark_set (Inside of) = None
@@ -41,12 +41,12 @@ mark_set (Result of e) = None
 mark_set (Ellipsis of) = None
 
 -- The owner of each variable: that of the skeleton's root that stands last at or before it.
-abbrev pub owners_from : Owner → List Row → List Owner
+abbrev pub owners_from : Owner → List VarRow → List Owner
 owners_from last [] = []
-owners_from last (row ∷ rows) = let owner = unwrap_or (owner_set row.place) last in owner ∷ owners_from owner rows
+owners_from last (row ∷ rows) = let owner = unwrap_or (owner_set row.parent) last in owner ∷ owners_from owner rows
 
 -- the owner of each variable of a table
-abbrev pub owners_of : List Row → List Owner
+abbrev pub owners_of : List VarRow → List Owner
 owners_of rows = owners_from Nobody rows
 
 -- What is seen at a number: a skeleton, the parameters of a function from there on, and the variable of a function's
@@ -74,7 +74,7 @@ tree_seen look n (nodes.Fun r) = fun n (look (n + 1)).params (look r).tree (look
 tree_seen look n nodes.Ellipsis = flat n kinds.Base
 
 -- the parameters from a row on, where it is a parameter and this is its skeleton
-abbrev pub params_seen : (ℕ → Seen) → Skel → Place → Skels
+abbrev pub params_seen : (ℕ → Seen) → Skel → Parent → Skels
 params_seen look tree (OfNobody unit token) = no_skels
 params_seen look tree (OfFunction unit token f) = no_skels
 params_seen look tree (Inside of) = no_skels
@@ -83,7 +83,7 @@ params_seen look tree (Result of e) = no_skels
 params_seen look tree (Ellipsis of) = no_skels
 
 -- the variable of further arguments that a row has, where it is a result
-abbrev pub ellipsis_seen : Place → Option ℕ
+abbrev pub ellipsis_seen : Parent → Option ℕ
 ellipsis_seen (OfNobody unit token) = None
 ellipsis_seen (OfFunction unit token f) = None
 ellipsis_seen (Inside of) = None
@@ -92,7 +92,7 @@ ellipsis_seen (Result of e) = e
 ellipsis_seen (Ellipsis of) = None
 
 -- the part behind a parameter
-abbrev pub next_seen : Place → Option ℕ
+abbrev pub next_seen : Parent → Option ℕ
 next_seen (OfNobody unit token) = None
 next_seen (OfFunction unit token f) = None
 next_seen (Inside of) = None
@@ -101,45 +101,48 @@ next_seen (Result of e) = None
 next_seen (Ellipsis of) = None
 
 -- what is seen at a row, by what is seen at the numbers behind it
-abbrev pub shown : (ℕ → Seen) → ℕ → Row → Seen
+abbrev pub shown : (ℕ → Seen) → ℕ → VarRow → Seen
 shown look n row = record {
   tree = tree_seen look n row.node;
-  params = params_seen look (tree_seen look n row.node) row.place;
-  ellipsis = ellipsis_seen row.place;
+  params = params_seen look (tree_seen look n row.node) row.parent;
+  ellipsis = ellipsis_seen row.parent;
 }
 
 -- a row names higher ones alone, and shows what these show
-abbrev pub all_seen : ℕ → List Row → List Seen
+abbrev pub all_seen : ℕ → List VarRow → List Seen
 all_seen n [] = []
 all_seen n (row ∷ rows) = let later = all_seen (n + 1) rows in shown (λ m. seen_at later (m - (n + 1))) n row ∷ later
 
 -- what is seen at a number of a table
-abbrev pub seen_in : List Row → ℕ → Seen
+abbrev pub seen_in : List VarRow → ℕ → Seen
 seen_in rows n = seen_at (all_seen 0 rows) n
 
 -- the skeleton at a number of a table
-abbrev pub skel_of : List Row → ℕ → Skel
+abbrev pub skel_of : List VarRow → ℕ → Skel
 skel_of rows n = (seen_in rows n).tree
 
 -- the parameters of a function from a number of a table on
-abbrev pub params_from : List Row → ℕ → Skels
+abbrev pub params_from : List VarRow → ℕ → Skels
 params_from rows n = (seen_in rows n).params
 
--- the rows of a skeleton of a type: from number n on, its outermost constructor in a place
-abbrev pub ellipsis_rows : ℕ → Option Words → List Row
+-- the rows of a skeleton of a type: from number n on, its outermost constructor under this parent
+abbrev pub ellipsis_rows : ℕ → Option Words → List VarRow
 ellipsis_rows n None = []
-ellipsis_rows n (Some ws) = record { node = nodes.Ellipsis; place = Ellipsis n } ∷ []
+ellipsis_rows n (Some ws) = record { node = nodes.Ellipsis; parent = Ellipsis n } ∷ []
 
 abbrev mutual
-  pub rows_of : CType → ℕ → Place → List Row
-  rows_of (base ws) n place = record { node = nodes.Base; place = place } ∷ []
-  rows_of (void ws) n place = record { node = nodes.Void; place = place } ∷ []
-  rows_of (struct ws s) n place = record { node = nodes.Struct s; place = place } ∷ []
-  rows_of (pointer ws t) n place = record { node = nodes.Ref; place = place } ∷ rows_of t (n + 1) (Inside n)
-  rows_of (function ws ps r e) n place = let back = n + 1 + sizes ps in
-      record { node = nodes.Fun back; place = place }
-      ∷ (param_rows n 0 ps (n + 1) ++ (rows_of r back (Result n (numbered_ellipsis e (back + size r))) ++ ellipsis_rows n e))
+  -- the rows of a type whose root has this number and parent
+  pub rows_of : CType → ℕ → Parent → List VarRow
+  rows_of (base ws) n parent = record { node = nodes.Base; parent = parent } ∷ []
+  rows_of (void ws) n parent = record { node = nodes.Void; parent = parent } ∷ []
+  rows_of (struct ws s) n parent = record { node = nodes.Struct s; parent = parent } ∷ []
+  rows_of (pointer ws t) n parent = record { node = nodes.Ref; parent = parent } ∷ rows_of t (n + 1) (Inside n)
+  rows_of (function ws ps r e) n parent = let back = n + 1 + sizes ps in
+      record { node = nodes.Fun back; parent = parent }
+      ∷ (param_rows n 0 ps (n + 1)
+      ++ (rows_of r back (Result n (numbered_ellipsis e (back + size r))) ++ ellipsis_rows n e))
 
-  pub param_rows : ℕ → ℕ → CTypes → ℕ → List Row
+  -- the rows of parameters, from this index and number on
+  pub param_rows : ℕ → ℕ → CTypes → ℕ → List VarRow
   param_rows of i no_types n = []
   param_rows of i (more_types t ts) n = rows_of t n (Param of i (n + size t)) ++ param_rows of (i + 1) ts (n + size t)

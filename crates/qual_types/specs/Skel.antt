@@ -7,12 +7,14 @@ use Rattle.qual_types.specs.declared.position.Step.{Step}
 use Rattle.qual_types.specs.declared.position.Step.TheVariants as steps
 
 mutual
+  -- the skeleton of a type: a variable at each of its constructors
   pub data Skel : Type 0 where
     flat : ℕ → Kind → Skel
     ref : ℕ → Skel → Skel
     -- parameters, result, and the variable of the further arguments, where there may be some
     fun : ℕ → Skels → Skel → Option ℕ → Skel
 
+  -- the skeletons of parameters
   pub data Skels : Type 0 where
     no_skels : Skels
     more_skels : Skel → Skels → Skels
@@ -73,11 +75,13 @@ of_some (Some v) = v ∷ []
 
 -- the variables of all constructors, in pre-order
 abbrev mutual
+  -- the variables of a skeleton, in pre-order
   pub nodes : Skel → List ℕ
   nodes (flat v k) = v ∷ []
   nodes (ref v s) = v ∷ nodes s
   nodes (fun v ps r e) = v ∷ all_nodes ps ++ (nodes r ++ of_some e)
 
+  -- the variables of parameters
   pub all_nodes : Skels → List ℕ
   all_nodes no_skels = []
   all_nodes (more_skels s ss) = nodes s ++ all_nodes ss
@@ -89,13 +93,13 @@ strict_nodes (ref v s) = nodes s
 strict_nodes (fun v ps r e) = all_nodes ps ++ (nodes r ++ of_some e)
 
 -- The skeleton of a type: its constructors are numbered from n on in pre-order, a type before what it refers to, a
--- function
--- before its parameters, its result, its ellipsis.
+-- function before its parameters, its result, its ellipsis.
 abbrev pub numbered_ellipsis : Option Words → ℕ → Option ℕ
 numbered_ellipsis None n = None
 numbered_ellipsis (Some ws) n = Some n
 
 abbrev mutual
+  -- the skeleton of a type whose variables are numbered from here on
   pub numbered : CType → ℕ → Skel
   numbered (base ws) n = flat n Base
   numbered (void ws) n = flat n Void
@@ -104,6 +108,7 @@ abbrev mutual
   numbered (function ws ps r e) n =
       fun n (all_numbered ps (n + 1)) (numbered r (n + 1 + sizes ps)) (numbered_ellipsis e (n + 1 + sizes ps + size r))
 
+  -- the skeletons of parameters, numbered from here on
   pub all_numbered : CTypes → ℕ → Skels
   all_numbered no_types n = no_skels
   all_numbered (more_types t ts) n = more_skels (numbered t n) (all_numbered ts (n + size t))

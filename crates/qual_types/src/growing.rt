@@ -8,14 +8,14 @@ ghost use Rattle.qual_types.specs.Skel.{within};
 ghost use Rattle.qual_types.specs.Rows.{rows_of, param_rows};
 ghost use Rattle.qual_types.specs.Table.{Grown, IsHeld};
 
-use crate::row::{Node, Place, Row};
+use crate::row::{Node, Parent, VarRow};
 use qual_base::{Numbered, Owner, SkelId, TokenId, TypeId, UnitNo, VarId};
 use type_table::{Shape, TypeTable};
 
 /// The rows of a skeleton behind those of a table. There is room for them.
 #[tactic(auto, using(crate::proofs::Growth::grown))]
 pub fn grow_skeleton(
-    rows: &mut Vec<Row>,
+    rows: &mut Vec<VarRow>,
     types: &TypeTable,
     ty: TypeId,
     outer: bool,
@@ -30,60 +30,61 @@ pub fn grow_skeleton(
     ensures { Grown rows.old.items rows.new.items
         (within outer (type_of types.now ty)) owner (unit, token) }
 {
-    grow_within(rows, types, ty, outer, Place::top(unit, token, owner));
+    grow_within(rows, types, ty, outer, Parent::top(unit, token, owner));
 }
 
 /// The rows of a type, inside one more reference where `outer` is true. There is room for them.
-fn grow_within(rows: &mut Vec<Row>, types: &TypeTable, ty: TypeId, outer: bool, place: Place)
+fn grow_within(rows: &mut Vec<VarRow>, types: &TypeTable, ty: TypeId, outer: bool, parent: Parent)
     requires room { vec_len rows.old + size
         (within outer (type_of types.now ty)) ≤ vec_capacity rows.old }
     requires few { vec_len rows.old + size (within outer (type_of types.now ty)) ≤ 2 ^ 24 }
     ensures { rows.new.items
-        ≡ rows.old.items ++ rows_of (within outer (type_of types.now ty)) (vec_len rows.old) place }
+        ≡ rows.old.items ++ rows_of (within outer (type_of types.now ty)) (vec_len rows.old)
+        parent }
 {
     if outer {
         let at = SkelId::new(rows.len() as u32);
-        rows.push_reserved(Row {
+        rows.push_reserved(VarRow {
             node: Node::Ref,
-            place,
+            parent,
         });
-        grow(rows, types, ty, Place::Inside { of: at });
+        grow(rows, types, ty, Parent::Inside { of: at });
     } else {
-        grow(rows, types, ty, place);
+        grow(rows, types, ty, parent);
     }
 }
 
 /// The rows of a type. There is room for them.
 #[cycle(grow)]
 #[tactic(auto, using(crate::proofs::Sizes::capped_small, crate::proofs::Sizes::rows_append, crate::proofs::Sizes::some_size, crate::proofs::Sizes::as_many))]
-fn grow(rows: &mut Vec<Row>, types: &TypeTable, ty: TypeId, place: Place)
+fn grow(rows: &mut Vec<VarRow>, types: &TypeTable, ty: TypeId, parent: Parent)
     requires room { vec_len rows.old + size (type_of types.now ty) ≤ vec_capacity rows.old }
     requires few { vec_len rows.old + size (type_of types.now ty) ≤ 2 ^ 24 }
     ensures items { rows.new.items
-        ≡ rows.old.items ++ rows_of (type_of types.now ty) (vec_len rows.old) place }
+        ≡ rows.old.items ++ rows_of (type_of types.now ty) (vec_len rows.old) parent }
     ensures len { vec_len rows.new ≡ vec_len rows.old + size (type_of types.now ty) }
     ensures capacity { vec_capacity rows.new ≡ vec_capacity rows.old }
 {
     let at = SkelId::new(rows.len() as u32);
     match types.shape(ty) {
-        Shape::Base => rows.push_reserved(Row {
+        Shape::Base => rows.push_reserved(VarRow {
             node: Node::Base,
-            place,
+            parent,
         }),
-        Shape::Void => rows.push_reserved(Row {
+        Shape::Void => rows.push_reserved(VarRow {
             node: Node::Void,
-            place,
+            parent,
         }),
-        Shape::Struct(of) => rows.push_reserved(Row {
+        Shape::Struct(of) => rows.push_reserved(VarRow {
             node: Node::Struct(*of),
-            place,
+            parent,
         }),
         Shape::Ref(inside) => {
-            rows.push_reserved(Row {
+            rows.push_reserved(VarRow {
                 node: Node::Ref,
-                place,
+                parent,
             });
-            grow(rows, types, *inside, Place::Inside { of: at });
+            grow(rows, types, *inside, Parent::Inside { of: at });
         }
         Shape::Fun {
             params,
@@ -91,28 +92,28 @@ fn grow(rows: &mut Vec<Row>, types: &TypeTable, ty: TypeId, place: Place)
             ellipsis,
         } => {
             let back_at = at.number() + 1 + types.sizes(params);
-            rows.push_reserved(Row {
+            rows.push_reserved(VarRow {
                 node: Node::Fun(SkelId::new(back_at)),
-                place,
+                parent,
             });
             grow_params(rows, types, params, at, 0);
             if *ellipsis {
                 let last = VarId::new(back_at + types.size(*back));
-                let place = Place::Result {
+                let parent = Parent::Result {
                     of: at,
                     ellipsis: Some(last),
                 };
-                grow(rows, types, *back, place);
-                rows.push_reserved(Row {
+                grow(rows, types, *back, parent);
+                rows.push_reserved(VarRow {
                     node: Node::Ellipsis,
-                    place: Place::Ellipsis { of: at },
+                    parent: Parent::Ellipsis { of: at },
                 });
             } else {
-                let place = Place::Result {
+                let parent = Parent::Result {
                     of: at,
                     ellipsis: None,
                 };
-                grow(rows, types, *back, place);
+                grow(rows, types, *back, parent);
             }
         }
     }
@@ -121,7 +122,7 @@ fn grow(rows: &mut Vec<Row>, types: &TypeTable, ty: TypeId, place: Place)
 /// The rows of the parameters of a function, from the one of a number on. There is room for them.
 #[cycle(grow)]
 #[tactic(auto, using(crate::proofs::Sizes::capped_small, crate::proofs::Sizes::rows_append, crate::proofs::Sizes::some_size, crate::proofs::Sizes::as_many))]
-fn grow_params(rows: &mut Vec<Row>, types: &TypeTable, params: &[TypeId], of: SkelId, index: u32)
+fn grow_params(rows: &mut Vec<VarRow>, types: &TypeTable, params: &[TypeId], of: SkelId, index: u32)
     requires room { vec_len rows.old + sizes
         (types_at (types_of types.now) params.now) ≤ vec_capacity rows.old }
     requires few { vec_len rows.old + sizes (types_at (types_of types.now) params.now) ≤ 2 ^ 24 }
@@ -136,7 +137,7 @@ fn grow_params(rows: &mut Vec<Row>, types: &TypeTable, params: &[TypeId], of: Sk
         None => {}
         Some((first, rest)) => {
             let next = SkelId::new(rows.len() as u32 + types.size(first));
-            grow(rows, types, first, Place::Param { of, index, next });
+            grow(rows, types, first, Parent::Param { of, index, next });
             grow_params(rows, types, rest, of, index + 1);
         }
     }

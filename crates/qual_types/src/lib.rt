@@ -14,5 +14,5 @@ mod tests;
 
 pub use look::{Kind, Look};
 pub use position::{Position, Step};
-pub use row::{Node, Place, Row};
+pub use row::{Node, Parent, VarRow};
 pub use table::{QualFault, VarTable};

@@ -20,7 +20,7 @@ pub enum Node {
 
 /// What a constructor is a part of: a skeleton's root of none, the others of the constructor around them.
 #[derive(Clone, Copy, PartialEq, Eq, Debug)]
-pub enum Place {
+pub enum Parent {
     OfNobody {
         unit: UnitNo,
         token: TokenId,
@@ -49,23 +49,23 @@ pub enum Place {
     },
 }
 
-/// A variable: its constructor, and where that stands.
+/// A variable: its constructor, and what that is a part of.
 #[derive(Clone, Copy, PartialEq, Eq, Debug)]
-pub struct Row {
+pub struct VarRow {
     pub node: Node,
-    pub place: Place,
+    pub parent: Parent,
 }
 
-impl Place {
-    /// The place of a skeleton's root.
-    pub fn top(unit: UnitNo, token: TokenId, owner: Owner) -> Place
+impl Parent {
+    /// What a skeleton's root is a part of: nothing.
+    pub fn top(unit: UnitNo, token: TokenId, owner: Owner) -> Parent
         ensures none { above result ≡ Rattle.std.specs.Prelude.None }
         ensures owner { owner_set result ≡ Rattle.std.specs.Prelude.Some owner }
         ensures mark { mark_set result ≡ Rattle.std.specs.Prelude.Some (unit, token) }
     {
         match owner {
-            Owner::Nobody => Place::OfNobody { unit, token },
-            Owner::Function(function) => Place::OfFunction {
+            Owner::Nobody => Parent::OfNobody { unit, token },
+            Owner::Function(function) => Parent::OfFunction {
                 unit,
                 token,
                 function,
@@ -78,12 +78,12 @@ impl Place {
         ensures { result ≡ above self }
     {
         match self {
-            Place::OfNobody { .. } => None,
-            Place::OfFunction { .. } => None,
-            Place::Inside { of } => Some((of, Step::Inside)),
-            Place::Param { of, index, .. } => Some((of, Step::Param(index))),
-            Place::Result { of, .. } => Some((of, Step::Result)),
-            Place::Ellipsis { of } => Some((of, Step::Ellipsis)),
+            Parent::OfNobody { .. } => None,
+            Parent::OfFunction { .. } => None,
+            Parent::Inside { of } => Some((of, Step::Inside)),
+            Parent::Param { of, index, .. } => Some((of, Step::Param(index))),
+            Parent::Result { of, .. } => Some((of, Step::Result)),
+            Parent::Ellipsis { of } => Some((of, Step::Ellipsis)),
         }
     }
 
@@ -92,12 +92,12 @@ impl Place {
         ensures { result ≡ mark_set self }
     {
         match self {
-            Place::OfNobody { unit, token } => Some((unit, token)),
-            Place::OfFunction { unit, token, .. } => Some((unit, token)),
-            Place::Inside { .. } => None,
-            Place::Param { .. } => None,
-            Place::Result { .. } => None,
-            Place::Ellipsis { .. } => None,
+            Parent::OfNobody { unit, token } => Some((unit, token)),
+            Parent::OfFunction { unit, token, .. } => Some((unit, token)),
+            Parent::Inside { .. } => None,
+            Parent::Param { .. } => None,
+            Parent::Result { .. } => None,
+            Parent::Ellipsis { .. } => None,
         }
     }
 }

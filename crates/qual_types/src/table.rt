@@ -19,7 +19,7 @@ ghost use Rattle.qual_types.specs.Table.{RowStands, IsNodeLinked};
 use crate::growing::grow_skeleton;
 use crate::look::{Kind, Look};
 use crate::position::{Position, Step};
-use crate::row::{Node, Place, Row};
+use crate::row::{Node, Parent, VarRow};
 use qual_base::{NoMemory, Numbered, Owner, SkelId, StructId, TokenId, TypeId, UnitNo, VarId};
 use std::alloc::Global;
 use std::marker::Model;
@@ -41,15 +41,15 @@ pub const MOST_VARIABLES: u32 = 16_777_216;
 /// Clauses see its rows by what they show: `skel_of`, `owner_of` and `mark_of`.
 #[derive(Drop)]
 pub struct VarTable {
-    rows: Vec<Row>,
+    rows: Vec<VarRow>,
 }
 
 impl Model for VarTable {
     ghost use Rattle.std.specs.Prelude.{List};
-    ghost use Rattle.qual_types.specs.declared.row.Row.{Row};
+    ghost use Rattle.qual_types.specs.declared.row.VarRow.{VarRow};
     ghost use Rattle.qual_types.specs.Table.{IsHeld};
 
-    ghost Value = { List Row };
+    ghost Value = { List VarRow };
 
     ghost view = { λ a. a.rows.items };
 
@@ -114,7 +114,7 @@ impl VarTable {
     }
 
     /// The row of a number, if it is one of the table.
-    fn row(&self, at: SkelId) -> Option<Row>
+    fn row(&self, at: SkelId) -> Option<VarRow>
         ensures { MatchOption result (IsPast self.now at) (λ row. RowStands self.now at row) }
     {
         if (at.number() as usize) < self.rows.len() {
@@ -124,7 +124,7 @@ impl VarTable {
         }
     }
 
-    fn there(&self, at: SkelId) -> Row
+    fn there(&self, at: SkelId) -> VarRow
         requires { at < length self.now }
         ensures there { slice_get self.now at ≡ Some result }
         ensures held { IsHeld self.now }
@@ -138,7 +138,7 @@ impl VarTable {
         ensures low { IsSomeVar result }
     {
         match self.row(back) {
-            Some(row) => ellipsis_of_place(row.place),
+            Some(row) => ellipsis_of_parent(row.parent),
             None => None,
         }
     }
@@ -184,7 +184,7 @@ impl VarTable {
         ensures low { IsPartLink (length self.now) at result }
     {
         match self.row(at) {
-            Some(row) => next_of_place(row.place),
+            Some(row) => next_of_parent(row.parent),
             None => None,
         }
     }
@@ -294,7 +294,7 @@ impl VarTable {
         ensures { (at < length self.now → IsTop self.now at) → result ≡ owner_of self.now at }
     {
         match self.row(at) {
-            Some(row) => owner_of_place(row.place),
+            Some(row) => owner_of_parent(row.parent),
             None => Owner::Nobody,
         }
     }
@@ -326,7 +326,7 @@ impl VarTable {
             IsPart (skel_of self.now) (owner_of self.now) at x.0 x.1 × (at < length self.now)) }
     {
         match self.row(at) {
-            Some(row) => row.place.above(),
+            Some(row) => row.parent.above(),
             None => None,
         }
     }
@@ -336,7 +336,7 @@ impl VarTable {
         ensures { IsTop self.now at → mark_of self.now at ≡ Some result }
     {
         match self.row(at) {
-            Some(row) => match row.place.mark() {
+            Some(row) => match row.parent.mark() {
                 Some(mark) => mark,
                 None => (UnitNo::new(0), TokenId::new(0)),
             },
@@ -356,45 +356,45 @@ impl VarTable {
     }
 }
 
-/// The owner that a place names, else nobody.
-fn owner_of_place(place: Place) -> Owner
-    ensures { result ≡ unwrap_or (owner_set place) Nobody }
+/// The owner that a parent names, else nobody.
+fn owner_of_parent(parent: Parent) -> Owner
+    ensures { result ≡ unwrap_or (owner_set parent) Nobody }
 {
-    match place {
-        Place::OfNobody { .. } => Owner::Nobody,
-        Place::OfFunction { function, .. } => Owner::Function(function),
-        Place::Inside { .. } => Owner::Nobody,
-        Place::Param { .. } => Owner::Nobody,
-        Place::Result { .. } => Owner::Nobody,
-        Place::Ellipsis { .. } => Owner::Nobody,
+    match parent {
+        Parent::OfNobody { .. } => Owner::Nobody,
+        Parent::OfFunction { function, .. } => Owner::Function(function),
+        Parent::Inside { .. } => Owner::Nobody,
+        Parent::Param { .. } => Owner::Nobody,
+        Parent::Result { .. } => Owner::Nobody,
+        Parent::Ellipsis { .. } => Owner::Nobody,
     }
 }
 
-/// The variable of a function's further arguments, where a place is that of its result.
-fn ellipsis_of_place(place: Place) -> Option<VarId>
-    ensures { result ≡ ellipsis_seen place }
+/// The variable of a function's further arguments, where a parent is that of its result.
+fn ellipsis_of_parent(parent: Parent) -> Option<VarId>
+    ensures { result ≡ ellipsis_seen parent }
 {
-    match place {
-        Place::Result { ellipsis, .. } => ellipsis,
-        Place::OfNobody { .. } => None,
-        Place::OfFunction { .. } => None,
-        Place::Inside { .. } => None,
-        Place::Param { .. } => None,
-        Place::Ellipsis { .. } => None,
+    match parent {
+        Parent::Result { ellipsis, .. } => ellipsis,
+        Parent::OfNobody { .. } => None,
+        Parent::OfFunction { .. } => None,
+        Parent::Inside { .. } => None,
+        Parent::Param { .. } => None,
+        Parent::Ellipsis { .. } => None,
     }
 }
 
-/// The part behind a parameter, where a place is that of one.
-fn next_of_place(place: Place) -> Option<SkelId>
-    ensures { result ≡ next_seen place }
+/// The part behind a parameter, where a parent is that of one.
+fn next_of_parent(parent: Parent) -> Option<SkelId>
+    ensures { result ≡ next_seen parent }
 {
-    match place {
-        Place::Param { next, .. } => Some(next),
-        Place::OfNobody { .. } => None,
-        Place::OfFunction { .. } => None,
-        Place::Inside { .. } => None,
-        Place::Result { .. } => None,
-        Place::Ellipsis { .. } => None,
+    match parent {
+        Parent::Param { next, .. } => Some(next),
+        Parent::OfNobody { .. } => None,
+        Parent::OfFunction { .. } => None,
+        Parent::Inside { .. } => None,
+        Parent::Result { .. } => None,
+        Parent::Ellipsis { .. } => None,
     }
 }
 

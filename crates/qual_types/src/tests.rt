@@ -266,5 +266,5 @@ fn a_type_that_passes_the_limit_leaves_the_table(rt: HostRuntime) -> Result<(), 
 
 #[test]
 fn a_variable_takes_24_bytes(rt: HostRuntime) {
-    assert_eq!(rt; std::mem::size_of::<crate::row::Row>(), 24);
+    assert_eq!(rt; std::mem::size_of::<crate::row::VarRow>(), 24);
 }

@@ -25,4 +25,6 @@ next_falls any comma s ts x e =
 
 pub name_loop : (any : Bool) → IsLoop (name_turn any)
 unfolding name_turn
-name_loop any = is_loop (name_turn any) (comma_turn_shrinks (if any then name_at else identifier_at) (next_name (if any then name_at else identifier_at)) (next_falls any))
+name_loop any =
+    is_loop (name_turn any) (comma_turn_shrinks (if any then name_at else identifier_at)
+    (next_name (if any then name_at else identifier_at)) (next_falls any))

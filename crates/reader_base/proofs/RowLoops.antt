@@ -37,7 +37,8 @@ attr_shrinks s ts x e =
     omega (arith, token_falls is_attribute _ _ _ a.1, group_shrinks _ _ _ b.1, end)
 
 pub extension_loop : (room : ℕ) → IsLoop (extension_turn room)
-extension_loop room = repeated_loop is_extension (λ s ts. fits 2 room ts (take_one s ts)) (fits_shrinks 2 room take_one take_shrinks)
+extension_loop room =
+    repeated_loop is_extension (λ s ts. fits 2 room ts (take_one s ts)) (fits_shrinks 2 room take_one take_shrinks)
 
 pub text_loop : IsLoop text_turn
 text_loop = repeated_loop is_text take_one take_shrinks
@@ -46,13 +47,15 @@ pub qual_loop : IsLoop qual_turn
 qual_loop = repeated_loop (λ kind. is_made (word_qual_of kind)) (made_at word_qual_of) (made_shrinks word_qual_of)
 
 pub array_word_loop : IsLoop array_word_turn
-array_word_loop = repeated_loop (λ kind. is_made (array_word_of kind)) (made_at array_word_of) (made_shrinks array_word_of)
+array_word_loop =
+    repeated_loop (λ kind. is_made (array_word_of kind)) (made_at array_word_of) (made_shrinks array_word_of)
 
 pub asm_word_loop : IsLoop asm_word_turn
 asm_word_loop = repeated_loop (λ kind. is_made (asm_word_of kind)) (made_at asm_word_of) (made_shrinks asm_word_of)
 
 pub attr_loop : (room : ℕ) → IsLoop (attr_turn room)
-attr_loop room = repeated_loop is_attribute (λ s ts. fits 2 room ts (attr_at s ts)) (fits_shrinks 2 room attr_at attr_shrinks)
+attr_loop room =
+    repeated_loop is_attribute (λ s ts. fits 2 room ts (attr_at s ts)) (fits_shrinks 2 room attr_at attr_shrinks)
 
 pub pointer_word_loop : (room : ℕ) → IsLoop (pointer_word_turn room)
 pointer_word_loop room = repeated_loop begins_pointer_word (pointer_word_at room) (pointer_word_shrinks [] room)

@@ -1,7 +1,7 @@
 -- Whether a tree of some height has room.
 use Rattle.std.specs.Prelude.{◌≡◌, ℕ, nat_le, true, false, List, Result, Ok, Err}
 use Rattle.c_tree.specs.declared.lexeme.Lexeme.{Lexeme}
-use Rattle.c_reading.specs.declared.kinds.Fault.TheVariants.{TooDeep}
+use Rattle.c_reading.specs.declared.kinds.FaultKind.TheVariants.{TooDeep}
 use Rattle.c_reading.specs.Reading.{number_at}
 use Rattle.reader_base.specs.declared.fault.ReadError.{ReadError}
 use Rattle.reader_base.specs.declared.fault.ReadError.TheVariants as errors

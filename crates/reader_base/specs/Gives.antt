@@ -4,7 +4,7 @@ use Rattle.std.specs.Global.{Vec}
 use Rattle.c_reading.specs.Reading.{Found, Refusal, Reader}
 use Rattle.reader_base.specs.declared.fault.ReadError.{ReadError}
 use Rattle.reader_base.specs.declared.fault.ReadError.TheVariants as errors
-use Rattle.reader_base.specs.declared.place.Place.{Place}
+use Rattle.reader_base.specs.declared.cursor.Cursor.{Cursor}
 
 -- a reader's failure is the refusal that the reader of lists gives; want of memory may come anywhere
 abbrev pub Fails : {Y : Type 0} → ReadError → Result Y Refusal → Type 0
@@ -16,18 +16,18 @@ abbrev pub Gives : {X Y : Type 0} → (X → Y) → Result X ReadError → Resul
 Gives view (Ok x) read = read ≡ Ok (view x)
 Gives view (Err e) read = Fails e read
 
--- what was read, with a place behind it
-abbrev pub behind : {A : Type 0} → A → Place → Found A
-behind a place = record { tree = a; scopes = place.scopes; rest = place.rest.now }
+-- what was read, with a cursor behind it
+abbrev pub behind : {A : Type 0} → A → Cursor → Found A
+behind a cursor = record { tree = a; scopes = cursor.scopes; rest = cursor.rest.now }
 
--- a reader of lists answers so at a place, and leaves it so
-abbrev pub Reads : {X A : Type 0} → (X → A) → Place → Place → Result X ReadError → Reader A → Type 0
+-- a reader of lists answers so at a cursor, and leaves it so
+abbrev pub Reads : {X A : Type 0} → (X → A) → Cursor → Cursor → Result X ReadError → Reader A → Type 0
 Reads view before after result reader = Gives (λ x. behind (view x) after) result (reader before.scopes before.rest.now)
 
 -- the same of an answer that is seen as it is, as the number of a token
-abbrev pub Takes : {A : Type 0} → Place → Place → Result A ReadError → Reader A → Type 0
+abbrev pub Takes : {A : Type 0} → Cursor → Cursor → Result A ReadError → Reader A → Type 0
 Takes before after result reader = Reads (λ x. x) before after result reader
 
 -- the same of a row, which is seen as its items
-abbrev pub ReadsRow : {A : Type 0} → Place → Place → Result (Vec A) ReadError → Reader (List A) → Type 0
+abbrev pub ReadsRow : {A : Type 0} → Cursor → Cursor → Result (Vec A) ReadError → Reader (List A) → Type 0
 ReadsRow before after result reader = Reads (λ row. row.items) before after result reader

@@ -27,7 +27,7 @@ use Rattle.reader_base.specs.declared.asking.Ask.TheVariants as asks
 use Rattle.reader_base.specs.declared.asking.Answer.{Answer}
 use Rattle.reader_base.specs.declared.asking.Answer.TheVariants as answers
 use Rattle.reader_base.specs.declared.fault.ReadError.{ReadError}
-use Rattle.reader_base.specs.declared.place.Place.{Place}
+use Rattle.reader_base.specs.declared.cursor.Cursor.{Cursor}
 use Rattle.reader_base.specs.Gives.{Gives, behind, Reads}
 
 -- what was read already of the first operand of an expression
@@ -64,36 +64,36 @@ sized_block x = record { opening = x.opening; items = block_items_from x.items.i
 abbrev pub sized_stmt : SizedStmt → trees.Stmt
 sized_stmt x = stmt_of x.tree.value
 
--- an expression is read at a place as the reader of lists gives it
-abbrev pub ReadsExpr : Place → Place → Result SizedExpr ReadError → Reader trees.Expr → Type 0
+-- an expression is read at a cursor as the reader of lists gives it
+abbrev pub ReadsExpr : Cursor → Cursor → Result SizedExpr ReadError → Reader trees.Expr → Type 0
 ReadsExpr before after result reader = Reads sized_expr before after result reader
 
 -- a type name is read so
-abbrev pub ReadsTypeName : Place → Place → Result SizedTypeName ReadError → Reader parts.TypeName → Type 0
+abbrev pub ReadsTypeName : Cursor → Cursor → Result SizedTypeName ReadError → Reader parts.TypeName → Type 0
 ReadsTypeName before after result reader = Reads sized_type_name before after result reader
 
 -- specifiers are read so
-abbrev pub ReadsSpecs : Place → Place → Result SizedSpecs ReadError → Reader trees.SpecWords → Type 0
+abbrev pub ReadsSpecs : Cursor → Cursor → Result SizedSpecs ReadError → Reader trees.SpecWords → Type 0
 ReadsSpecs before after result reader = Reads sized_specs before after result reader
 
 -- a declarator, which may be absent, is read so
-abbrev pub ReadsDeclr : Place → Place → Result Declared ReadError → Reader parts.Declared → Type 0
+abbrev pub ReadsDeclr : Cursor → Cursor → Result Declared ReadError → Reader parts.Declared → Type 0
 ReadsDeclr before after result reader = Reads declared_of before after result reader
 
 -- a declarator that must be there is read so
-abbrev pub ReadsPresent : Place → Place → Result PresentDeclr ReadError → Reader trees.Declr → Type 0
+abbrev pub ReadsPresent : Cursor → Cursor → Result PresentDeclr ReadError → Reader trees.Declr → Type 0
 ReadsPresent before after result reader = Reads (λ x. declr_of x.declr.value) before after result reader
 
 -- a braced list of initialisers is read so
-abbrev pub ReadsInitList : Place → Place → Result SizedInitList ReadError → Reader trees.InitList → Type 0
+abbrev pub ReadsInitList : Cursor → Cursor → Result SizedInitList ReadError → Reader trees.InitList → Type 0
 ReadsInitList before after result reader = Reads sized_init_list before after result reader
 
 -- a block is read so
-abbrev pub ReadsBlock : Place → Place → Result SizedBlock ReadError → Reader parts.Block → Type 0
+abbrev pub ReadsBlock : Cursor → Cursor → Result SizedBlock ReadError → Reader parts.Block → Type 0
 ReadsBlock before after result reader = Reads sized_block before after result reader
 
 -- a statement is read so
-abbrev pub ReadsStmt : Place → Place → Result SizedStmt ReadError → Reader trees.Stmt → Type 0
+abbrev pub ReadsStmt : Cursor → Cursor → Result SizedStmt ReadError → Reader trees.Stmt → Type 0
 ReadsStmt before after result reader = Reads sized_stmt before after result reader
 
 -- a tree of any kind
@@ -129,21 +129,24 @@ specs_from depth role known room = (knot depth).specs role (sized_specs known) r
 abbrev pub asked_at : ℕ → Ask → Reader Tree
 asked_at depth (asks.Expr reach begun room) s ts = under expr_tree ((knot depth).expr reach (begun_of begun) room s ts)
 asked_at depth (asks.TypeName room) s ts = under type_name_tree ((knot depth).type_name room s ts)
-asked_at depth (asks.Specs role known room) s ts = under specs_tree ((knot depth).specs role (sized_specs known) room s ts)
-asked_at depth (asks.Declr mode wanted flag room) s ts = under declr_tree ((knot depth).declr mode wanted flag room s ts)
+asked_at depth (asks.Specs role known room) s ts =
+    under specs_tree ((knot depth).specs role (sized_specs known) room s ts)
+asked_at depth (asks.Declr mode wanted flag room) s ts =
+    under declr_tree ((knot depth).declr mode wanted flag room s ts)
 asked_at depth (asks.InitList room) s ts = under init_list_tree ((knot depth).init_list room s ts)
 asked_at depth (asks.Block room) s ts = under block_tree ((knot depth).block room s ts)
 asked_at depth (asks.Stmt room) s ts = under stmt_tree ((knot depth).stmt room s ts)
 
 -- what is asked of the lent reader is read as the reader of lists gives it
-abbrev pub ReadsAsked : Place → Place → Result Answer ReadError → Reader Tree → Type 0
+abbrev pub ReadsAsked : Cursor → Cursor → Result Answer ReadError → Reader Tree → Type 0
 ReadsAsked before after result reader = Reads tree_of before after result reader
 
 -- the reader that is lent can always be called, and gives what the readers of a number give
 module _ {F : Type 0} where
   -- the reader that is lent can always be called, and gives what the readers of a number give
-  abbrev pub Lends : Shared F (Ask × (MutBor Place × Unit {0})) (Result Answer ReadError × (MutBor Place × Unit {0}))
+  abbrev pub Lends : Shared F (Ask × (MutBor Cursor × Unit {0})) (Result Answer ReadError × (MutBor Cursor × Unit {0}))
       → F → ℕ → Type 0
   Lends g f depth = always_fn g f
-      × ((ask : Ask) (p : MutBor Place) (r : Result Answer ReadError) (after : MutBor Place) → g.post f (ask, (p, tt)) (r, (after, tt)) →
+      × ((ask : Ask) (p : MutBor Cursor) (r : Result Answer ReadError) (after : MutBor Cursor)
+      → g.post f (ask, (p, tt)) (r, (after, tt)) →
       ReadsAsked p.now after.now r (asked_at depth ask))

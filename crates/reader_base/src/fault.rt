@@ -5,7 +5,7 @@ ghost use Rattle.c_reading.specs.Reading.{number_at};
 ghost use Rattle.reader_base.specs.declared.fault.ReadError.TheVariants as errors;
 ghost use Rattle.reader_base.specs.declared.fault.ReadError.TheVariants.{NoMemory};
 
-use c_reading::Fault;
+use c_reading::FaultKind;
 use c_tree::Lexeme;
 use qual_base::{Numbered, TokenId};
 use std::alloc::{AllocError, AllocFailed};
@@ -13,7 +13,7 @@ use std::alloc::{AllocError, AllocFailed};
 /// Why a reader gives up: a fault at a token, or want of memory.
 #[derive(Clone, Copy)]
 pub enum ReadError {
-    Fault(Fault, TokenId),
+    Fault(FaultKind, TokenId),
     NoMemory,
 }
 
@@ -52,7 +52,7 @@ pub fn number_at(tokens: &[Lexeme]) -> TokenId
 }
 
 /// The first token is refused.
-pub fn refused(fault: Fault, tokens: &[Lexeme]) -> ReadError
+pub fn refused(fault: FaultKind, tokens: &[Lexeme]) -> ReadError
     ensures { result ≡ errors.Fault fault (number_at tokens.now) }
 {
     ReadError::Fault(fault, number_at(tokens))

@@ -9,8 +9,8 @@ ghost use Rattle.reader_base.specs.Lent.{ReadsExpr, ReadsTypeName, ReadsSpecs, R
 ghost use Rattle.reader_base.specs.Lent.{ReadsInitList, ReadsBlock, ReadsStmt};
 
 use crate::asking::{Answer, Ask, Begun, Declared};
+use crate::cursor::Cursor;
 use crate::fault::ReadError;
-use crate::place::Place;
 use c_nodes::{SizedBlock, SizedExpr, SizedInitList, SizedSpecs, SizedStmt, SizedTypeName};
 use c_reading::{Mode, Reach, Role};
 use typedef_scope::Kind;
@@ -21,15 +21,16 @@ pub fn expr_inside<'a, F>(
     reach: Reach,
     begun: Begun,
     room: u16,
-    place: &mut Place<'a>,
+    cursor: &mut Cursor<'a>,
     depth: u32,
 ) -> Result<SizedExpr, ReadError>
 where
-    F: Fn(Ask, &mut Place<'a>) -> Result<Answer, ReadError>,
+    F: Fn(Ask, &mut Cursor<'a>) -> Result<Answer, ReadError>,
     requires { Lends F.Fn lent.now depth }
-    ensures { ReadsExpr place.old place.new result ((knot depth).expr reach (begun_of begun) room) }
+    ensures { ReadsExpr cursor.old cursor.new result
+        ((knot depth).expr reach (begun_of begun) room) }
 {
-    match lent(Ask::Expr(reach, begun, room), place)? {
+    match lent(Ask::Expr(reach, begun, room), cursor)? {
         Answer::Expr(found) => Ok(found),
         _ => Err(ReadError::NoMemory),
     }
@@ -39,15 +40,15 @@ where
 pub fn type_name_inside<'a, F>(
     lent: &F,
     room: u16,
-    place: &mut Place<'a>,
+    cursor: &mut Cursor<'a>,
     depth: u32,
 ) -> Result<SizedTypeName, ReadError>
 where
-    F: Fn(Ask, &mut Place<'a>) -> Result<Answer, ReadError>,
+    F: Fn(Ask, &mut Cursor<'a>) -> Result<Answer, ReadError>,
     requires { Lends F.Fn lent.now depth }
-    ensures { ReadsTypeName place.old place.new result ((knot depth).type_name room) }
+    ensures { ReadsTypeName cursor.old cursor.new result ((knot depth).type_name room) }
 {
-    match lent(Ask::TypeName(room), place)? {
+    match lent(Ask::TypeName(room), cursor)? {
         Answer::TypeName(found) => Ok(found),
         _ => Err(ReadError::NoMemory),
     }
@@ -59,15 +60,15 @@ pub fn specs_inside<'a, F>(
     role: Role,
     known: SizedSpecs,
     room: u16,
-    place: &mut Place<'a>,
+    cursor: &mut Cursor<'a>,
     depth: u32,
 ) -> Result<SizedSpecs, ReadError>
 where
-    F: Fn(Ask, &mut Place<'a>) -> Result<Answer, ReadError>,
+    F: Fn(Ask, &mut Cursor<'a>) -> Result<Answer, ReadError>,
     requires { Lends F.Fn lent.now depth }
-    ensures { ReadsSpecs place.old place.new result (specs_from depth role known room) }
+    ensures { ReadsSpecs cursor.old cursor.new result (specs_from depth role known room) }
 {
-    match lent(Ask::Specs(role, known, room), place)? {
+    match lent(Ask::Specs(role, known, room), cursor)? {
         Answer::Specs(found) => Ok(found),
         _ => Err(ReadError::NoMemory),
     }
@@ -80,15 +81,15 @@ pub fn declr_inside<'a, F>(
     wanted: Option<Kind>,
     flag: bool,
     room: u16,
-    place: &mut Place<'a>,
+    cursor: &mut Cursor<'a>,
     depth: u32,
 ) -> Result<Declared, ReadError>
 where
-    F: Fn(Ask, &mut Place<'a>) -> Result<Answer, ReadError>,
+    F: Fn(Ask, &mut Cursor<'a>) -> Result<Answer, ReadError>,
     requires { Lends F.Fn lent.now depth }
-    ensures { ReadsDeclr place.old place.new result ((knot depth).declr mode wanted flag room) }
+    ensures { ReadsDeclr cursor.old cursor.new result ((knot depth).declr mode wanted flag room) }
 {
-    match lent(Ask::Declr(mode, wanted, flag, room), place)? {
+    match lent(Ask::Declr(mode, wanted, flag, room), cursor)? {
         Answer::Declr(found) => Ok(found),
         _ => Err(ReadError::NoMemory),
     }
@@ -98,15 +99,15 @@ where
 pub fn init_list_inside<'a, F>(
     lent: &F,
     room: u16,
-    place: &mut Place<'a>,
+    cursor: &mut Cursor<'a>,
     depth: u32,
 ) -> Result<SizedInitList, ReadError>
 where
-    F: Fn(Ask, &mut Place<'a>) -> Result<Answer, ReadError>,
+    F: Fn(Ask, &mut Cursor<'a>) -> Result<Answer, ReadError>,
     requires { Lends F.Fn lent.now depth }
-    ensures { ReadsInitList place.old place.new result ((knot depth).init_list room) }
+    ensures { ReadsInitList cursor.old cursor.new result ((knot depth).init_list room) }
 {
-    match lent(Ask::InitList(room), place)? {
+    match lent(Ask::InitList(room), cursor)? {
         Answer::InitList(found) => Ok(found),
         _ => Err(ReadError::NoMemory),
     }
@@ -116,15 +117,15 @@ where
 pub fn block_inside<'a, F>(
     lent: &F,
     room: u16,
-    place: &mut Place<'a>,
+    cursor: &mut Cursor<'a>,
     depth: u32,
 ) -> Result<SizedBlock, ReadError>
 where
-    F: Fn(Ask, &mut Place<'a>) -> Result<Answer, ReadError>,
+    F: Fn(Ask, &mut Cursor<'a>) -> Result<Answer, ReadError>,
     requires { Lends F.Fn lent.now depth }
-    ensures { ReadsBlock place.old place.new result ((knot depth).block room) }
+    ensures { ReadsBlock cursor.old cursor.new result ((knot depth).block room) }
 {
-    match lent(Ask::Block(room), place)? {
+    match lent(Ask::Block(room), cursor)? {
         Answer::Block(found) => Ok(found),
         _ => Err(ReadError::NoMemory),
     }
@@ -134,15 +135,15 @@ where
 pub fn stmt_inside<'a, F>(
     lent: &F,
     room: u16,
-    place: &mut Place<'a>,
+    cursor: &mut Cursor<'a>,
     depth: u32,
 ) -> Result<SizedStmt, ReadError>
 where
-    F: Fn(Ask, &mut Place<'a>) -> Result<Answer, ReadError>,
+    F: Fn(Ask, &mut Cursor<'a>) -> Result<Answer, ReadError>,
     requires { Lends F.Fn lent.now depth }
-    ensures { ReadsStmt place.old place.new result ((knot depth).stmt room) }
+    ensures { ReadsStmt cursor.old cursor.new result ((knot depth).stmt room) }
 {
-    match lent(Ask::Stmt(room), place)? {
+    match lent(Ask::Stmt(room), cursor)? {
         Answer::Stmt(found) => Ok(found),
         _ => Err(ReadError::NoMemory),
     }

@@ -6,6 +6,7 @@
 #![tactic(auto)]
 
 mod asking;
+mod cursor;
 mod fault;
 mod groups;
 mod inside;
@@ -13,13 +14,13 @@ mod kinds;
 mod lists;
 mod openings;
 mod parts;
-mod place;
 mod qualifiers;
 mod rows;
 mod starts;
 mod tokens;
 
 pub use asking::{Answer, Ask, Begun, Declared};
+pub use cursor::{Cursor, room_above, room_for};
 pub use fault::{ReadError, number_at, refused};
 pub use groups::{alignment, attr, attrs, group, label, static_assert};
 pub use inside::{
@@ -38,7 +39,6 @@ pub use openings::{
     takes_comma,
 };
 pub use parts::{known_declr, named_declr, specs_here};
-pub use place::{Place, room_above, room_for};
 pub use qualifiers::{array_words, pointer_words, quals};
 pub use rows::{asm_words, extensions, texts};
 pub use starts::{

@@ -6,7 +6,7 @@ ghost use Rattle.c_reading.specs.Expressing as exprs;
 
 use c_reading::{Infix, Opening, PostfixForm, Reach};
 use c_words::{Keyword, Punct, TokenKind};
-use held_scopes::Scopes;
+use held_scopes::TypedefScopes;
 
 /// Whether a sign is `=` or a compound assignment (C99, 6.5.16).
 fn is_assignment(sign: Punct) -> bool
@@ -121,7 +121,7 @@ pub fn opening_of(kind: TokenKind) -> Opening
 }
 
 /// Whether an operand begins so, where a name is no typedef name.
-pub fn is_opening(scopes: &Scopes, opening: Opening) -> bool
+pub fn is_opening(scopes: &TypedefScopes, opening: Opening) -> bool
     ensures { result ≡ exprs.is_opening scopes.now opening }
 {
     match opening {
@@ -133,7 +133,7 @@ pub fn is_opening(scopes: &Scopes, opening: Opening) -> bool
 }
 
 /// Whether an expression begins with a token of a kind.
-pub fn begins_expr(scopes: &Scopes, kind: TokenKind) -> bool
+pub fn begins_expr(scopes: &TypedefScopes, kind: TokenKind) -> bool
     ensures { result ≡ exprs.begins_expr scopes.now kind }
 {
     is_opening(scopes, opening_of(kind))

@@ -6,12 +6,12 @@ ghost use Rattle.reader_base.specs.Gives.{ReadsRow, Takes};
 ghost use Rattle.reader_base.specs.Looping.{IsLoop, Turns};
 ghost use Rattle.reader_base.specs.Rows as rows;
 
+use crate::cursor::{Cursor, room_for};
 use crate::fault::{ReadError, refused};
 use crate::groups::attr;
 use crate::kinds::{is_attribute, is_static};
-use crate::place::{Place, room_for};
 use crate::tokens::kind_at;
-use c_reading::Fault;
+use c_reading::FaultKind;
 use c_syntax::{ArrayWord, PointerWord, Qual, Word};
 use c_tree::Lexeme;
 use c_words::{Keyword, TokenKind};
@@ -93,28 +93,28 @@ fn quals_step()
 
 /// One qualifier more, where one stands.
 #[tactic(auto, unfolding(c_reading::specs::Reading::and_then))]
-fn qual_turn(known: &mut Vec<Qual>, place: &mut Place) -> Result<bool, ReadError>
-    ensures { Turns known.old.items known.new.items place.old place.new result rows.qual_turn }
+fn qual_turn(known: &mut Vec<Qual>, cursor: &mut Cursor) -> Result<bool, ReadError>
+    ensures { Turns known.old.items known.new.items cursor.old cursor.new result rows.qual_turn }
 {
-    let [first, rest @ ..] = place.rest else {
+    let [first, rest @ ..] = cursor.rest else {
         return Ok(false);
     };
     let Some(qual) = word_qual_of(first) else {
         return Ok(false);
     };
     known.push(qual)?;
-    place.rest = rest;
+    cursor.rest = rest;
     Ok(true)
 }
 
 /// Qualifiers, as many as stand.
 #[tactic(auto, unfolding(c_reading::specs::Tokens::quals_at, c_reading::specs::Reading::repeated))]
-pub fn quals(place: &mut Place) -> Result<Vec<Qual>, ReadError>
-    ensures { ReadsRow place.old place.new result tokens.quals_at }
+pub fn quals(cursor: &mut Cursor) -> Result<Vec<Qual>, ReadError>
+    ensures { ReadsRow cursor.old cursor.new result tokens.quals_at }
 {
     quals_step();
-    let mut known = Vec::new(place.alloc);
-    while qual_turn(&mut known, place)? {}
+    let mut known = Vec::new(cursor.alloc);
+    while qual_turn(&mut known, cursor)? {}
     Ok(known)
 }
 
@@ -125,11 +125,11 @@ fn array_words_step()
 
 /// One word more in the brackets of an array, where one stands.
 #[tactic(auto, unfolding(c_reading::specs::Reading::and_then))]
-fn array_word_turn(known: &mut Vec<ArrayWord>, place: &mut Place) -> Result<bool, ReadError>
-    ensures { Turns known.old.items known.new.items place.old place.new result
+fn array_word_turn(known: &mut Vec<ArrayWord>, cursor: &mut Cursor) -> Result<bool, ReadError>
+    ensures { Turns known.old.items known.new.items cursor.old cursor.new result
         rows.array_word_turn }
 {
-    let [first, rest @ ..] = place.rest else {
+    let [first, rest @ ..] = cursor.rest else {
         return Ok(false);
     };
     if let Some(qual) = qual_of(first.kind, first.at) {
@@ -139,32 +139,32 @@ fn array_word_turn(known: &mut Vec<ArrayWord>, place: &mut Place) -> Result<bool
     } else {
         return Ok(false);
     }
-    place.rest = rest;
+    cursor.rest = rest;
     Ok(true)
 }
 
 /// The words in the brackets of an array, as many as stand.
 #[tactic(auto, unfolding(c_reading::specs::Tokens::array_words_at, c_reading::specs::Reading::repeated))]
-pub fn array_words(place: &mut Place) -> Result<Vec<ArrayWord>, ReadError>
-    ensures { ReadsRow place.old place.new result tokens.array_words_at }
+pub fn array_words(cursor: &mut Cursor) -> Result<Vec<ArrayWord>, ReadError>
+    ensures { ReadsRow cursor.old cursor.new result tokens.array_words_at }
 {
     array_words_step();
-    let mut known = Vec::new(place.alloc);
-    while array_word_turn(&mut known, place)? {}
+    let mut known = Vec::new(cursor.alloc);
+    while array_word_turn(&mut known, cursor)? {}
     Ok(known)
 }
 
 /// Takes a qualifier, which must stand first.
-fn qual(place: &mut Place) -> Result<Qual, ReadError>
-    ensures { Takes place.old place.new result (tokens.made_at tokens.qual_of) }
+fn qual(cursor: &mut Cursor) -> Result<Qual, ReadError>
+    ensures { Takes cursor.old cursor.new result (tokens.made_at tokens.qual_of) }
 {
-    let [first, rest @ ..] = place.rest else {
-        return Err(refused(Fault::Unexpected, place.rest));
+    let [first, rest @ ..] = cursor.rest else {
+        return Err(refused(FaultKind::Unexpected, cursor.rest));
     };
     let Some(qual) = qual_of(first.kind, first.at) else {
-        return Err(refused(Fault::Unexpected, place.rest));
+        return Err(refused(FaultKind::Unexpected, cursor.rest));
     };
-    place.rest = rest;
+    cursor.rest = rest;
     Ok(qual)
 }
 
@@ -178,19 +178,19 @@ fn pointer_words_step(room: u16)
 fn pointer_word_turn(
     known: &mut Vec<PointerWord>,
     room: u16,
-    place: &mut Place,
+    cursor: &mut Cursor,
 ) -> Result<bool, ReadError>
-    ensures { Turns known.old.items known.new.items place.old place.new result
+    ensures { Turns known.old.items known.new.items cursor.old cursor.new result
         (rows.pointer_word_turn room) }
 {
-    if is_attribute(kind_at(place.rest)) {
-        room_for(2, room, place)?;
-        let attr = attr(place)?;
+    if is_attribute(kind_at(cursor.rest)) {
+        room_for(2, room, cursor)?;
+        let attr = attr(cursor)?;
         known.push(PointerWord::Attr(attr))?;
         return Ok(true);
     }
-    if is_qual(kind_at(place.rest)) {
-        let qual = qual(place)?;
+    if is_qual(kind_at(cursor.rest)) {
+        let qual = qual(cursor)?;
         known.push(PointerWord::Qual(qual))?;
         return Ok(true);
     }
@@ -199,11 +199,11 @@ fn pointer_word_turn(
 
 /// The words behind a star, as many as stand.
 #[tactic(auto, unfolding(c_reading::specs::Tokens::pointer_words_at, c_reading::specs::Reading::repeated))]
-pub fn pointer_words(room: u16, place: &mut Place) -> Result<Vec<PointerWord>, ReadError>
-    ensures { ReadsRow place.old place.new result (tokens.pointer_words_at room) }
+pub fn pointer_words(room: u16, cursor: &mut Cursor) -> Result<Vec<PointerWord>, ReadError>
+    ensures { ReadsRow cursor.old cursor.new result (tokens.pointer_words_at room) }
 {
     pointer_words_step(room);
-    let mut known = Vec::new(place.alloc);
-    while pointer_word_turn(&mut known, room, place)? {}
+    let mut known = Vec::new(cursor.alloc);
+    while pointer_word_turn(&mut known, room, cursor)? {}
     Ok(known)
 }

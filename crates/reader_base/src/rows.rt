@@ -6,9 +6,9 @@ ghost use Rattle.reader_base.specs.Gives.{ReadsRow};
 ghost use Rattle.reader_base.specs.Looping.{IsLoop, Turns};
 ghost use Rattle.reader_base.specs.Rows as rows;
 
+use crate::cursor::{Cursor, room_for};
 use crate::fault::ReadError;
 use crate::kinds::{is_extension, is_text};
-use crate::place::{Place, room_for};
 use crate::tokens::{kind_at, take_one};
 use c_syntax::Word;
 use c_words::{Keyword, TokenKind};
@@ -21,27 +21,31 @@ fn extensions_step(room: u16)
 
 /// `__extension__` once more, where it stands.
 #[tactic(auto, unfolding(c_reading::specs::Reading::and_then, c_reading::specs::Reading::fits))]
-fn extension_turn(known: &mut Vec<TokenId>, room: u16, place: &mut Place) -> Result<bool, ReadError>
-    ensures { Turns known.old.items known.new.items place.old place.new result
+fn extension_turn(
+    known: &mut Vec<TokenId>,
+    room: u16,
+    cursor: &mut Cursor,
+) -> Result<bool, ReadError>
+    ensures { Turns known.old.items known.new.items cursor.old cursor.new result
         (rows.extension_turn room) }
 {
-    if !is_extension(kind_at(place.rest)) {
+    if !is_extension(kind_at(cursor.rest)) {
         return Ok(false);
     }
-    room_for(2, room, place)?;
-    let token = take_one(place)?;
+    room_for(2, room, cursor)?;
+    let token = take_one(cursor)?;
     known.push(token)?;
     Ok(true)
 }
 
 /// `__extension__`, as often as it stands.
 #[tactic(auto, unfolding(c_reading::specs::Tokens::extensions_at, c_reading::specs::Reading::repeated))]
-pub fn extensions(room: u16, place: &mut Place) -> Result<Vec<TokenId>, ReadError>
-    ensures { ReadsRow place.old place.new result (tokens.extensions_at room) }
+pub fn extensions(room: u16, cursor: &mut Cursor) -> Result<Vec<TokenId>, ReadError>
+    ensures { ReadsRow cursor.old cursor.new result (tokens.extensions_at room) }
 {
     extensions_step(room);
-    let mut known = Vec::new(place.alloc);
-    while extension_turn(&mut known, room, place)? {}
+    let mut known = Vec::new(cursor.alloc);
+    while extension_turn(&mut known, room, cursor)? {}
     Ok(known)
 }
 
@@ -52,25 +56,25 @@ fn texts_step()
 
 /// One string more, where one stands.
 #[tactic(auto, unfolding(c_reading::specs::Reading::and_then))]
-fn text_turn(known: &mut Vec<TokenId>, place: &mut Place) -> Result<bool, ReadError>
-    ensures { Turns known.old.items known.new.items place.old place.new result rows.text_turn }
+fn text_turn(known: &mut Vec<TokenId>, cursor: &mut Cursor) -> Result<bool, ReadError>
+    ensures { Turns known.old.items known.new.items cursor.old cursor.new result rows.text_turn }
 {
-    if !is_text(kind_at(place.rest)) {
+    if !is_text(kind_at(cursor.rest)) {
         return Ok(false);
     }
-    let token = take_one(place)?;
+    let token = take_one(cursor)?;
     known.push(token)?;
     Ok(true)
 }
 
 /// Strings, as many as stand.
 #[tactic(auto, unfolding(c_reading::specs::Tokens::texts_at, c_reading::specs::Reading::repeated))]
-pub fn texts(place: &mut Place) -> Result<Vec<TokenId>, ReadError>
-    ensures { ReadsRow place.old place.new result tokens.texts_at }
+pub fn texts(cursor: &mut Cursor) -> Result<Vec<TokenId>, ReadError>
+    ensures { ReadsRow cursor.old cursor.new result tokens.texts_at }
 {
     texts_step();
-    let mut known = Vec::new(place.alloc);
-    while text_turn(&mut known, place)? {}
+    let mut known = Vec::new(cursor.alloc);
+    while text_turn(&mut known, cursor)? {}
     Ok(known)
 }
 
@@ -102,27 +106,28 @@ fn asm_words_step()
 
 /// One word more of a statement in assembler, where one stands.
 #[tactic(auto, unfolding(c_reading::specs::Reading::and_then))]
-fn asm_word_turn(known: &mut Vec<Word>, place: &mut Place) -> Result<bool, ReadError>
-    ensures { Turns known.old.items known.new.items place.old place.new result rows.asm_word_turn }
+fn asm_word_turn(known: &mut Vec<Word>, cursor: &mut Cursor) -> Result<bool, ReadError>
+    ensures { Turns known.old.items known.new.items cursor.old cursor.new result
+        rows.asm_word_turn }
 {
-    let [first, rest @ ..] = place.rest else {
+    let [first, rest @ ..] = cursor.rest else {
         return Ok(false);
     };
     let Some(word) = asm_word_of(first.kind, first.at) else {
         return Ok(false);
     };
     known.push(word)?;
-    place.rest = rest;
+    cursor.rest = rest;
     Ok(true)
 }
 
 /// The words of a statement in assembler, as many as stand.
 #[tactic(auto, unfolding(c_reading::specs::Tokens::asm_words_at, c_reading::specs::Reading::repeated))]
-pub fn asm_words(place: &mut Place) -> Result<Vec<Word>, ReadError>
-    ensures { ReadsRow place.old place.new result tokens.asm_words_at }
+pub fn asm_words(cursor: &mut Cursor) -> Result<Vec<Word>, ReadError>
+    ensures { ReadsRow cursor.old cursor.new result tokens.asm_words_at }
 {
     asm_words_step();
-    let mut known = Vec::new(place.alloc);
-    while asm_word_turn(&mut known, place)? {}
+    let mut known = Vec::new(cursor.alloc);
+    while asm_word_turn(&mut known, cursor)? {}
     Ok(known)
 }

@@ -8,7 +8,7 @@ ghost use Rattle.c_reading.specs.Stating as stmts;
 use crate::openings::begins_expr;
 use c_reading::{Role, SpecStart, StmtStart};
 use c_words::{Keyword, Punct, TokenKind};
-use held_scopes::Scopes;
+use held_scopes::TypedefScopes;
 
 /// Which word of specifiers a keyword begins (C99, 6.7).
 fn keyword_start(keyword: Keyword) -> SpecStart
@@ -68,7 +68,7 @@ fn kind_start(kind: TokenKind) -> SpecStart
 }
 
 /// A name begins a word where it is a typedef name and no type stands before it.
-fn typed_start(scopes: &Scopes, typed: bool, start: SpecStart) -> SpecStart
+fn typed_start(scopes: &TypedefScopes, typed: bool, start: SpecStart) -> SpecStart
     ensures { result ≡ specs.typed_start scopes.now typed start }
 {
     match start {
@@ -84,7 +84,7 @@ fn typed_start(scopes: &Scopes, typed: bool, start: SpecStart) -> SpecStart
 }
 
 /// Which word a token of a kind begins behind words, among which a type stands or not.
-pub fn start_at(scopes: &Scopes, typed: bool, kind: TokenKind) -> SpecStart
+pub fn start_at(scopes: &TypedefScopes, typed: bool, kind: TokenKind) -> SpecStart
     ensures { result ≡ specs.start_at scopes.now typed kind }
 {
     typed_start(scopes, typed, kind_start(kind))
@@ -101,7 +101,7 @@ pub fn is_start(start: SpecStart) -> bool
 }
 
 /// Whether specifiers begin with a token of a kind.
-pub fn begins_specs(scopes: &Scopes, kind: TokenKind) -> bool
+pub fn begins_specs(scopes: &TypedefScopes, kind: TokenKind) -> bool
     ensures { result ≡ specs.begins_specs scopes.now kind }
 {
     is_start(start_at(scopes, false, kind))
@@ -141,7 +141,7 @@ pub fn may_stand(role: Role, start: &SpecStart) -> bool
 }
 
 /// Whether specifiers of a role begin with a token of a kind.
-pub fn begins_role(role: Role, scopes: &Scopes, kind: TokenKind) -> bool
+pub fn begins_role(role: Role, scopes: &TypedefScopes, kind: TokenKind) -> bool
     ensures { result ≡ specs.begins_role role scopes.now kind }
 {
     let start = start_at(scopes, false, kind);
@@ -193,7 +193,7 @@ pub fn stmt_start(kind: TokenKind) -> StmtStart
 }
 
 /// Whether an initialiser begins with a token of a kind (C99, 6.7.8).
-pub fn begins_init(scopes: &Scopes, kind: TokenKind) -> bool
+pub fn begins_init(scopes: &TypedefScopes, kind: TokenKind) -> bool
     ensures { result ≡ inits.begins_init scopes.now kind }
 {
     match kind {

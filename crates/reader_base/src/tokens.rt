@@ -6,14 +6,14 @@ ghost use Rattle.c_reading.specs.Reading.{token_at};
 ghost use Rattle.c_reading.specs.Tokens as tokens;
 ghost use Rattle.reader_base.specs.Gives.{Reads, Takes};
 
+use crate::cursor::Cursor;
 use crate::fault::{ReadError, refused};
 use crate::kinds::{
     is_asm, is_attribute, is_close_brace, is_close_bracket, is_close_paren, is_colon, is_comma,
     is_end, is_equal, is_open_brace, is_open_bracket, is_open_paren, is_semicolon,
     is_static_assert, is_while,
 };
-use crate::place::Place;
-use c_reading::Fault;
+use c_reading::FaultKind;
 use c_syntax::Identifier;
 use c_tree::Lexeme;
 use c_words::TokenKind;
@@ -40,210 +40,210 @@ pub fn behind_first(tokens: &[Lexeme]) -> &[Lexeme]
 }
 
 /// Takes the first token, whatever it is.
-pub fn take_one(place: &mut Place) -> Result<TokenId, ReadError>
-    ensures { Takes place.old place.new result reading.take_one }
+pub fn take_one(cursor: &mut Cursor) -> Result<TokenId, ReadError>
+    ensures { Takes cursor.old cursor.new result reading.take_one }
 {
-    match place.rest {
+    match cursor.rest {
         [first, rest @ ..] => {
-            place.rest = rest;
+            cursor.rest = rest;
             Ok(first.at)
         }
-        [] => Err(refused(Fault::Unexpected, place.rest)),
+        [] => Err(refused(FaultKind::Unexpected, cursor.rest)),
     }
 }
 
 /// Takes `(`, which must stand first.
-pub fn open_paren(place: &mut Place) -> Result<TokenId, ReadError>
-    ensures { Takes place.old place.new result (token_at tokens.is_open_paren) }
+pub fn open_paren(cursor: &mut Cursor) -> Result<TokenId, ReadError>
+    ensures { Takes cursor.old cursor.new result (token_at tokens.is_open_paren) }
 {
-    match place.rest {
+    match cursor.rest {
         [first, rest @ ..] if is_open_paren(first.kind) => {
-            place.rest = rest;
+            cursor.rest = rest;
             Ok(first.at)
         }
-        _ => Err(refused(Fault::Unexpected, place.rest)),
+        _ => Err(refused(FaultKind::Unexpected, cursor.rest)),
     }
 }
 
 /// Takes `)`, which must stand first.
-pub fn close_paren(place: &mut Place) -> Result<TokenId, ReadError>
-    ensures { Takes place.old place.new result (token_at tokens.is_close_paren) }
+pub fn close_paren(cursor: &mut Cursor) -> Result<TokenId, ReadError>
+    ensures { Takes cursor.old cursor.new result (token_at tokens.is_close_paren) }
 {
-    match place.rest {
+    match cursor.rest {
         [first, rest @ ..] if is_close_paren(first.kind) => {
-            place.rest = rest;
+            cursor.rest = rest;
             Ok(first.at)
         }
-        _ => Err(refused(Fault::Unexpected, place.rest)),
+        _ => Err(refused(FaultKind::Unexpected, cursor.rest)),
     }
 }
 
 /// Takes `[`, which must stand first.
-pub fn open_bracket(place: &mut Place) -> Result<TokenId, ReadError>
-    ensures { Takes place.old place.new result (token_at tokens.is_open_bracket) }
+pub fn open_bracket(cursor: &mut Cursor) -> Result<TokenId, ReadError>
+    ensures { Takes cursor.old cursor.new result (token_at tokens.is_open_bracket) }
 {
-    match place.rest {
+    match cursor.rest {
         [first, rest @ ..] if is_open_bracket(first.kind) => {
-            place.rest = rest;
+            cursor.rest = rest;
             Ok(first.at)
         }
-        _ => Err(refused(Fault::Unexpected, place.rest)),
+        _ => Err(refused(FaultKind::Unexpected, cursor.rest)),
     }
 }
 
 /// Takes `]`, which must stand first.
-pub fn close_bracket(place: &mut Place) -> Result<TokenId, ReadError>
-    ensures { Takes place.old place.new result (token_at tokens.is_close_bracket) }
+pub fn close_bracket(cursor: &mut Cursor) -> Result<TokenId, ReadError>
+    ensures { Takes cursor.old cursor.new result (token_at tokens.is_close_bracket) }
 {
-    match place.rest {
+    match cursor.rest {
         [first, rest @ ..] if is_close_bracket(first.kind) => {
-            place.rest = rest;
+            cursor.rest = rest;
             Ok(first.at)
         }
-        _ => Err(refused(Fault::Unexpected, place.rest)),
+        _ => Err(refused(FaultKind::Unexpected, cursor.rest)),
     }
 }
 
 /// Takes `{`, which must stand first.
-pub fn open_brace(place: &mut Place) -> Result<TokenId, ReadError>
-    ensures { Takes place.old place.new result (token_at tokens.is_open_brace) }
+pub fn open_brace(cursor: &mut Cursor) -> Result<TokenId, ReadError>
+    ensures { Takes cursor.old cursor.new result (token_at tokens.is_open_brace) }
 {
-    match place.rest {
+    match cursor.rest {
         [first, rest @ ..] if is_open_brace(first.kind) => {
-            place.rest = rest;
+            cursor.rest = rest;
             Ok(first.at)
         }
-        _ => Err(refused(Fault::Unexpected, place.rest)),
+        _ => Err(refused(FaultKind::Unexpected, cursor.rest)),
     }
 }
 
 /// Takes `}`, which must stand first.
-pub fn close_brace(place: &mut Place) -> Result<TokenId, ReadError>
-    ensures { Takes place.old place.new result (token_at tokens.is_close_brace) }
+pub fn close_brace(cursor: &mut Cursor) -> Result<TokenId, ReadError>
+    ensures { Takes cursor.old cursor.new result (token_at tokens.is_close_brace) }
 {
-    match place.rest {
+    match cursor.rest {
         [first, rest @ ..] if is_close_brace(first.kind) => {
-            place.rest = rest;
+            cursor.rest = rest;
             Ok(first.at)
         }
-        _ => Err(refused(Fault::Unexpected, place.rest)),
+        _ => Err(refused(FaultKind::Unexpected, cursor.rest)),
     }
 }
 
 /// Takes `:`, which must stand first.
-pub fn colon(place: &mut Place) -> Result<TokenId, ReadError>
-    ensures { Takes place.old place.new result (token_at tokens.is_colon) }
+pub fn colon(cursor: &mut Cursor) -> Result<TokenId, ReadError>
+    ensures { Takes cursor.old cursor.new result (token_at tokens.is_colon) }
 {
-    match place.rest {
+    match cursor.rest {
         [first, rest @ ..] if is_colon(first.kind) => {
-            place.rest = rest;
+            cursor.rest = rest;
             Ok(first.at)
         }
-        _ => Err(refused(Fault::Unexpected, place.rest)),
+        _ => Err(refused(FaultKind::Unexpected, cursor.rest)),
     }
 }
 
 /// Takes `,`, which must stand first.
-pub fn comma(place: &mut Place) -> Result<TokenId, ReadError>
-    ensures { Takes place.old place.new result (token_at tokens.is_comma) }
+pub fn comma(cursor: &mut Cursor) -> Result<TokenId, ReadError>
+    ensures { Takes cursor.old cursor.new result (token_at tokens.is_comma) }
 {
-    match place.rest {
+    match cursor.rest {
         [first, rest @ ..] if is_comma(first.kind) => {
-            place.rest = rest;
+            cursor.rest = rest;
             Ok(first.at)
         }
-        _ => Err(refused(Fault::Unexpected, place.rest)),
+        _ => Err(refused(FaultKind::Unexpected, cursor.rest)),
     }
 }
 
 /// Takes `=`, which must stand first.
-pub fn equal(place: &mut Place) -> Result<TokenId, ReadError>
-    ensures { Takes place.old place.new result (token_at tokens.is_equal) }
+pub fn equal(cursor: &mut Cursor) -> Result<TokenId, ReadError>
+    ensures { Takes cursor.old cursor.new result (token_at tokens.is_equal) }
 {
-    match place.rest {
+    match cursor.rest {
         [first, rest @ ..] if is_equal(first.kind) => {
-            place.rest = rest;
+            cursor.rest = rest;
             Ok(first.at)
         }
-        _ => Err(refused(Fault::Unexpected, place.rest)),
+        _ => Err(refused(FaultKind::Unexpected, cursor.rest)),
     }
 }
 
 /// Takes `;`, which must stand first.
-pub fn semicolon(place: &mut Place) -> Result<TokenId, ReadError>
-    ensures { Takes place.old place.new result (token_at tokens.is_semicolon) }
+pub fn semicolon(cursor: &mut Cursor) -> Result<TokenId, ReadError>
+    ensures { Takes cursor.old cursor.new result (token_at tokens.is_semicolon) }
 {
-    match place.rest {
+    match cursor.rest {
         [first, rest @ ..] if is_semicolon(first.kind) => {
-            place.rest = rest;
+            cursor.rest = rest;
             Ok(first.at)
         }
-        _ => Err(refused(Fault::Unexpected, place.rest)),
+        _ => Err(refused(FaultKind::Unexpected, cursor.rest)),
     }
 }
 
 /// Takes the end of the unit, which must stand first.
-pub fn end(place: &mut Place) -> Result<TokenId, ReadError>
-    ensures { Takes place.old place.new result (token_at tokens.is_end) }
+pub fn end(cursor: &mut Cursor) -> Result<TokenId, ReadError>
+    ensures { Takes cursor.old cursor.new result (token_at tokens.is_end) }
 {
-    match place.rest {
+    match cursor.rest {
         [first, rest @ ..] if is_end(first.kind) => {
-            place.rest = rest;
+            cursor.rest = rest;
             Ok(first.at)
         }
-        _ => Err(refused(Fault::Unexpected, place.rest)),
+        _ => Err(refused(FaultKind::Unexpected, cursor.rest)),
     }
 }
 
 /// Takes `__attribute__`, which must stand first.
-pub fn attribute_word(place: &mut Place) -> Result<TokenId, ReadError>
-    ensures { Takes place.old place.new result (token_at tokens.is_attribute) }
+pub fn attribute_word(cursor: &mut Cursor) -> Result<TokenId, ReadError>
+    ensures { Takes cursor.old cursor.new result (token_at tokens.is_attribute) }
 {
-    match place.rest {
+    match cursor.rest {
         [first, rest @ ..] if is_attribute(first.kind) => {
-            place.rest = rest;
+            cursor.rest = rest;
             Ok(first.at)
         }
-        _ => Err(refused(Fault::Unexpected, place.rest)),
+        _ => Err(refused(FaultKind::Unexpected, cursor.rest)),
     }
 }
 
 /// Takes `asm`, which must stand first.
-pub fn asm_word(place: &mut Place) -> Result<TokenId, ReadError>
-    ensures { Takes place.old place.new result (token_at tokens.is_asm) }
+pub fn asm_word(cursor: &mut Cursor) -> Result<TokenId, ReadError>
+    ensures { Takes cursor.old cursor.new result (token_at tokens.is_asm) }
 {
-    match place.rest {
+    match cursor.rest {
         [first, rest @ ..] if is_asm(first.kind) => {
-            place.rest = rest;
+            cursor.rest = rest;
             Ok(first.at)
         }
-        _ => Err(refused(Fault::Unexpected, place.rest)),
+        _ => Err(refused(FaultKind::Unexpected, cursor.rest)),
     }
 }
 
 /// Takes `_Static_assert`, which must stand first.
-pub fn assert_word(place: &mut Place) -> Result<TokenId, ReadError>
-    ensures { Takes place.old place.new result (token_at tokens.is_static_assert) }
+pub fn assert_word(cursor: &mut Cursor) -> Result<TokenId, ReadError>
+    ensures { Takes cursor.old cursor.new result (token_at tokens.is_static_assert) }
 {
-    match place.rest {
+    match cursor.rest {
         [first, rest @ ..] if is_static_assert(first.kind) => {
-            place.rest = rest;
+            cursor.rest = rest;
             Ok(first.at)
         }
-        _ => Err(refused(Fault::Unexpected, place.rest)),
+        _ => Err(refused(FaultKind::Unexpected, cursor.rest)),
     }
 }
 
 /// Takes `while`, which must stand first.
-pub fn while_word(place: &mut Place) -> Result<TokenId, ReadError>
-    ensures { Takes place.old place.new result (token_at tokens.is_while) }
+pub fn while_word(cursor: &mut Cursor) -> Result<TokenId, ReadError>
+    ensures { Takes cursor.old cursor.new result (token_at tokens.is_while) }
 {
-    match place.rest {
+    match cursor.rest {
         [first, rest @ ..] if is_while(first.kind) => {
-            place.rest = rest;
+            cursor.rest = rest;
             Ok(first.at)
         }
-        _ => Err(refused(Fault::Unexpected, place.rest)),
+        _ => Err(refused(FaultKind::Unexpected, cursor.rest)),
     }
 }
 
@@ -258,16 +258,16 @@ pub fn spelled_name(kind: TokenKind) -> Option<NameId>
 }
 
 /// Takes a name, which must stand first.
-pub fn name(place: &mut Place) -> Result<Identifier, ReadError>
-    ensures { Takes place.old place.new result tokens.name_at }
+pub fn name(cursor: &mut Cursor) -> Result<Identifier, ReadError>
+    ensures { Takes cursor.old cursor.new result tokens.name_at }
 {
-    let [first, rest @ ..] = place.rest else {
-        return Err(refused(Fault::Unexpected, place.rest));
+    let [first, rest @ ..] = cursor.rest else {
+        return Err(refused(FaultKind::Unexpected, cursor.rest));
     };
     let Some(name) = spelled_name(first.kind) else {
-        return Err(refused(Fault::Unexpected, place.rest));
+        return Err(refused(FaultKind::Unexpected, cursor.rest));
     };
-    place.rest = rest;
+    cursor.rest = rest;
     Ok(Identifier {
         token: first.at,
         name,
@@ -275,16 +275,16 @@ pub fn name(place: &mut Place) -> Result<Identifier, ReadError>
 }
 
 /// Takes a tag, where a name stands first.
-pub fn tag(place: &mut Place) -> Result<Option<Identifier>, ReadError>
-    ensures { Takes place.old place.new result tokens.tag_at }
+pub fn tag(cursor: &mut Cursor) -> Result<Option<Identifier>, ReadError>
+    ensures { Takes cursor.old cursor.new result tokens.tag_at }
 {
-    let [first, rest @ ..] = place.rest else {
+    let [first, rest @ ..] = cursor.rest else {
         return Ok(None);
     };
     let Some(name) = spelled_name(first.kind) else {
         return Ok(None);
     };
-    place.rest = rest;
+    cursor.rest = rest;
     Ok(Some(Identifier {
         token: first.at,
         name,

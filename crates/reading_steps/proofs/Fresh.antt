@@ -7,6 +7,7 @@ use Rattle.c_units.specs.HeldScopes.{HeldScopes, innermost, leave, kind_of, name
 use Rattle.reading_steps.specs.Fresh.{above_names, above_held, fresh, IsFree}
 use Rattle.reading_steps.specs.Laws.{FreshIsFree}
 
+-- a name above all those of a scope has no kind in it
 none_above : (names : List (ℕ × Kind)) (name : ℕ) → above_names names ≤ name → kind_in names name ≡ None
 none_above [] name h = refl
 none_above (known ∷ names) name h =
@@ -18,6 +19,7 @@ held_above : (o : Option ℕ) (name : ℕ) → above_held o ≤ name → is_name
 held_above None name h = refl
 held_above (Some held) name h = ne_eqb held name (λ same. absurd (omega (arith, h, same)))
 
+-- a name that is fresh or above has no kind in any scope
 no_kind_above : (s : HeldScopes) (name : ℕ) → fresh s ≤ name → kind_of s name ≡ None
 no_kind_above [] name h = refl
 no_kind_above (scope ∷ outer) name h =
@@ -25,12 +27,17 @@ no_kind_above (scope ∷ outer) name h =
     let there : fresh outer ≤ name = omega (arith, h) in
     rw (none_above scope.names name here) (no_kind_above outer name there)
 
+-- a name that is fresh or above is free: it has no kind, and the innermost scope neither has nor holds it
 pub fresh_is_free : FreshIsFree
 fresh_is_free [] name h = record { no_kind = refl; none_here = refl; not_held = refl }
 fresh_is_free (scope ∷ outer) name h =
     let here : above_names scope.names ≤ name = omega (arith, h) in
     let held : above_held scope.held ≤ name = omega (arith, h) in
-    record { no_kind = no_kind_above (scope ∷ outer) name h; none_here = none_above scope.names name here; not_held = held_above scope.held name held }
+    record {
+      no_kind = no_kind_above (scope ∷ outer) name h;
+      none_here = none_above scope.names name here;
+      not_held = held_above scope.held name held;
+    }
 
 -- the fresh name itself: no typedef name, it may be declared with each kind, and held
 pub fresh_free : (s : HeldScopes) → IsFree s (fresh s)
@@ -42,5 +49,6 @@ free_names_no_type s name h = rw h.no_kind refl
 pub free_may : (s : HeldScopes) (name : ℕ) (kind : Kind) → IsFree s name → may_declare (innermost s) name kind ≡ true
 free_may s name kind h = rw h.none_here refl
 
-pub free_held : (s : HeldScopes) (name : ℕ) (kind : Kind) → IsFree s name → hold name kind s ≡ Some (record (innermost s) { held = Some name } ∷ leave s)
+pub free_held : (s : HeldScopes) (name : ℕ) (kind : Kind) → IsFree s name
+    → hold name kind s ≡ Some (record (innermost s) { held = Some name } ∷ leave s)
 free_held s name kind h = rw (free_may s name kind h) refl

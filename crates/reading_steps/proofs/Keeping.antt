@@ -12,7 +12,11 @@ kept_refl true s = record { outer = refl; held = refl; constants = λ name h. h 
 kept_refl false s = refl
 
 pub kept_trans : (b : Bool) (s t u : HeldScopes) → Kept b s t → Kept b t u → Kept b s u
-kept_trans true s t u h g = record { outer = g.outer ∙ h.outer; held = g.held ∙ h.held; constants = λ name may. g.constants name (h.constants name may) }
+kept_trans true s t u h g = record {
+  outer = g.outer ∙ h.outer;
+  held = g.held ∙ h.held;
+  constants = λ name may. g.constants name (h.constants name may);
+}
 kept_trans false s t u h g = g ∙ h
 
 -- what an expression leaves, a declaration leaves
@@ -32,10 +36,12 @@ release_kept kind s = by_name (innermost s).held
     by_name None = refl
     by_name (Some name) = refl
 
+-- a scope that holds a name for a declarator keeps the scopes outside
 pub hold_kept : (name : ℕ) (kind : Kind) (s t : HeldScopes) → hold name kind s ≡ Some t → Kept false s t
 hold_kept name kind s t e = by_test (may_declare (innermost s) name kind) e
   where
-    by_test : (b : Bool) → (if b then Some (record (innermost s) { held = Some name } ∷ leave s) else None) ≡ Some t → leave t ≡ leave s
+    by_test : (b : Bool) → (if b then Some (record (innermost s) { held = Some name } ∷ leave s) else None) ≡ Some t
+        → leave t ≡ leave s
     by_test true e = let is : record (innermost s) { held = Some name } ∷ leave s ≡ t = cc in ap leave (sym is)
     by_test false e = absurd cc
 
@@ -46,6 +52,7 @@ with_held : (o : Option Kind) (scope : HeldScope) (name : ℕ) (kind : Kind)
 with_held None scope name kind = refl
 with_held (Some known) scope name kind = refl
 
+-- an enumerator that a scope may have may still be declared there behind another one
 with_constant : (o : Option Kind) (scope : HeldScope) (name other : ℕ) → may_declare scope other Constant ≡ true
     → may_declare (with_kind o scope name Constant) other Constant ≡ true
 with_constant (Some known) scope name other h = h
@@ -55,6 +62,7 @@ with_constant None scope name other h = by_test (nat_eq name other)
     by_test true = refl
     by_test false = h
 
+-- an enumerator that is declared keeps the outer scopes, the name held, and what enumerators may be declared
 pub declare_kept : (name : ℕ) (s t : HeldScopes) → declare name Constant s ≡ Some t → Kept true s t
 declare_kept name s t e = by_held (is_name (innermost s).held name) e
   where
@@ -71,7 +79,8 @@ declare_kept name s t e = by_held (is_name (innermost s).held name) e
     by_may false e = absurd cc
 
     by_held : (b : Bool)
-        → (if b then None else if may_declare (innermost s) name Constant then Some (with_name (innermost s) name Constant ∷ leave s) else None) ≡ Some t
+        → (if b then None else if may_declare (innermost s) name Constant
+        then Some (with_name (innermost s) name Constant ∷ leave s) else None) ≡ Some t
         → Kept true s t
     by_held true e = absurd cc
     by_held false e = by_may (may_declare (innermost s) name Constant) e

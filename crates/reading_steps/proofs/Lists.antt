@@ -5,7 +5,7 @@ use Rattle.c_words.specs.declared.kinds.TokenKind.TheVariants as kinds
 use Rattle.c_words.specs.declared.kinds.Punct.TheVariants.{Comma}
 use Rattle.c_tree.specs.declared.lexeme.Lexeme.{Lexeme}
 use Rattle.c_units.specs.HeldScopes.{HeldScopes}
-use Rattle.c_reading.specs.declared.kinds.Fault.TheVariants.{Unexpected}
+use Rattle.c_reading.specs.declared.kinds.FaultKind.TheVariants.{Unexpected}
 use Rattle.c_reading.specs.Reading.{Reader, and_then, ends, refuses, kind_at, take_one, run, repeated, listed, comma_turn, comma_turn_by, with_next, Next, CommaList, is_comma}
 use Rattle.c_reading.specs.Tokens.{is_end}
 use Rattle.c_reading.proofs.Loops.{TurnShrinks}
@@ -29,13 +29,17 @@ module _ (keep : Bool) where
       → Law keep (repeated begins read) front stops
   unfolding repeated
   repeated_law {T} begins read shrinks front stops fronts off g =
-      guarded_law keep begins (λ xs. behind read (λ x. ends (xs ++ x ∷ []))) (row_turn_shrinks begins read shrinks) front stops fronts off
-      (λ xs s ts is. bind_good keep read (λ x. ends (xs ++ x ∷ [])) stops stops s ts (λ tree scopes gives at. ready_ends keep (xs ++ tree ∷ []) stops stops scopes at (λ kind h. h)) (g s ts is)
+      guarded_law keep begins (λ xs. behind read (λ x. ends (xs ++ x ∷ [])))
+      (row_turn_shrinks begins read shrinks) front stops fronts off
+      (λ xs s ts is. bind_good keep read (λ x. ends (xs ++ x ∷ [])) stops stops s ts
+      (λ tree scopes gives at. ready_ends keep (xs ++ tree ∷ []) stops stops scopes at (λ kind h. h)) (g s ts is)
       (λ x e. ends_good keep (xs ++ x.tree ∷ []) stops x.scopes x.rest) (inr (λ kind h. h))) []
 
   -- What stands behind commas. A list may end behind one, and then it goes on no more.
-  module _ {T E : Type 0} (next : ℕ → Reader (Next T E)) (falls : (comma : ℕ) → Falls (next comma)) (front stops : TokenKind → Bool) (fronts : (kind : TokenKind) → stops kind ≡ true → front kind ≡ true)
-      (off : (kind : TokenKind) → stops kind ≡ true → is_comma kind ≡ false) (next_law : (comma : ℕ) → Law keep (next comma) any stops) where
+  module _ {T E : Type 0} (next : ℕ → Reader (Next T E)) (falls : (comma : ℕ) → Falls (next comma))
+      (front stops : TokenKind → Bool) (fronts : (kind : TokenKind) → stops kind ≡ true → front kind ≡ true)
+      (off : (kind : TokenKind) → stops kind ≡ true → is_comma kind ≡ false)
+      (next_law : (comma : ℕ) → Law keep (next comma) any stops) where
     shrinks : TurnShrinks (comma_turn next)
     shrinks = comma_turn_shrinks (λ s ts. refuses Unexpected ts) next falls
 
@@ -47,8 +51,9 @@ module _ (keep : Bool) where
         → Good keep (one_behind xs) stops s ts
     one_good xs s ts is =
         take_behind keep (λ comma. behind (next comma) (λ y. ends (with_next xs y))) stops
-        (λ comma. bind_law keep (next comma) (λ y. ends (with_next xs y)) any stops stops (next_law comma) (λ y. ends_law keep (with_next xs y) stops stops (λ kind h. h)) (inr (λ kind h. h)))
-        s ts (comma_no_end (kind_at ts) is)
+        (λ comma. bind_law keep (next comma) (λ y. ends (with_next xs y)) any stops stops (next_law comma)
+        (λ y. ends_law keep (with_next xs y) stops stops (λ kind h. h)) (inr (λ kind h. h))) s ts
+        (comma_no_end (kind_at ts) is)
 
     none : (a : CommaList T E) (s : HeldScopes) (k : List Lexeme) → stops (kind_at k) ≡ true
         → comma_turn next a s k ≡ None
@@ -93,7 +98,11 @@ module _ (keep : Bool) where
                 by_comma : (b : Bool) → is_comma u.kind ≡ b → GoodTurn keep (comma_turn next) stops a s ts
                 by_comma false other = inl (λ k h. turn_is None is k ∙ no_comma u other k (h ∙ ap first_kind e))
                 by_comma true comma =
-                    inr (one_behind a.items, (λ k h. turn_is None is k ∙ a_comma u comma k (h ∙ ap first_kind e)), one_good a.items s ts (ap (λ (ts : List Lexeme). is_comma (kind_at ts)) e ∙ comma))
+                    inr (
+                      one_behind a.items,
+                      (λ k h. turn_is None is k ∙ a_comma u comma k (h ∙ ap first_kind e)),
+                      one_good a.items s ts (ap (λ (ts : List Lexeme). is_comma (kind_at ts)) e ∙ comma),
+                    )
 
     pub commas_law : (a : CommaList T E) → Law keep (run (comma_turn next) a) front stops
     commas_law a = record {
@@ -113,16 +122,21 @@ module _ (keep : Bool) where
         → Good keep (listed first next) stops s ts
     unfolding listed
     listed_good first s ts g =
-        bind_good keep first (λ x. run (comma_turn next) (record { items = x ∷ []; ending = None })) front stops s ts (λ tree scopes gives at. (commas_law (record { items = tree ∷ []; ending = None })).ready scopes at) g
+        bind_good keep first (λ x. run (comma_turn next) (record { items = x ∷ []; ending = None })) front stops s ts
+        (λ tree scopes gives at. (commas_law (record { items = tree ∷ []; ending = None })).ready scopes at) g
         (λ x e. (commas_law (record { items = x.tree ∷ []; ending = None })).good x.scopes x.rest) (inr fronts)
 
     pub listed_ready : (first : Reader T) (begin : TokenKind → Bool) (s : HeldScopes) (at : ℕ)
         → Ready keep first begin front s at → Ready keep (listed first next) begin stops s at
     unfolding listed
     listed_ready first begin s at r =
-        ready_bind keep first (λ x. run (comma_turn next) (record { items = x ∷ []; ending = None })) begin front stops s at r
+        ready_bind keep first
+        (λ x. run (comma_turn next) (record { items = x ∷ []; ending = None })) begin front stops s at r
         (λ tree scopes gives at. (commas_law (record { items = tree ∷ []; ending = None })).ready scopes at)
 
     pub listed_law : (first : Reader T) (begin : TokenKind → Bool) → Law keep first begin front
         → Law keep (listed first next) begin stops
-    listed_law first begin l = record { good = λ s ts. listed_good first s ts (l.good s ts); ready = λ s at. listed_ready first begin s at (l.ready s at) }
+    listed_law first begin l = record {
+      good = λ s ts. listed_good first s ts (l.good s ts);
+      ready = λ s at. listed_ready first begin s at (l.ready s at);
+    }

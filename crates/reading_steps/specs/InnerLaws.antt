@@ -30,13 +30,17 @@ pub record ExprPlaces (n : ℕ) (expr : Reach → Begun → ℕ → Reader Expr)
       → (s : HeldScopes) (at : ℕ) → Ready true (expr reach begun room) is_number (stops_expr reach) s at
   pub number : (reach : Reach) (begun : Begun) (room : ℕ) → room < n → begun_levels begun < room
       → (s : HeldScopes) (at : ℕ) →
-      (e : Expr) × ((k : List Lexeme) → stops_expr reach (kind_at k) ≡ true → expr reach begun room s (record { kind = kinds.Number; at = at } ∷ k) ≡ ends e s k)
+      (e : Expr) × ((k : List Lexeme) → stops_expr reach (kind_at k) ≡ true
+      → expr reach begun room s (record { kind = kinds.Number; at = at } ∷ k) ≡ ends e s k)
   pub opens : (reach : Reach) (room : ℕ) → room < n → 2 ≤ room → (s : HeldScopes) (one two three : ℕ) →
       (e : Expr) × ((k : List Lexeme) → stops_expr reach (kind_at k) ≡ true
-      → expr reach nothing room s (record { kind = kinds.Punct OpenParen; at = one } ∷ record { kind = kinds.Number; at = two } ∷ record { kind = kinds.Punct CloseParen; at = three } ∷ k) ≡ ends e s k)
+      → expr reach nothing room s
+      (record { kind = kinds.Punct OpenParen; at = one } ∷ record { kind = kinds.Number; at = two }
+      ∷ record { kind = kinds.Punct CloseParen; at = three } ∷ k) ≡ ends e s k)
   pub named : (reach : Reach) (room : ℕ) → room < n → 1 ≤ room → (s : HeldScopes) (name at : ℕ)
       → names_type s name ≡ false →
-      (e : Expr) × ((k : List Lexeme) → stops_expr reach (kind_at k) ≡ true → expr reach nothing room s (record { kind = kinds.Name name; at = at } ∷ k) ≡ ends e s k)
+      (e : Expr) × ((k : List Lexeme) → stops_expr reach (kind_at k) ≡ true
+      → expr reach nothing room s (record { kind = kinds.Name name; at = at } ∷ k) ≡ ends e s k)
 
 -- Names of types: `int`.
 pub record TypeNamePlaces (n : ℕ) (type_name : ℕ → Reader TypeName) : Type 0 where
@@ -106,10 +110,12 @@ pub record DeclrPlaces (n : ℕ) (declr : Mode → Option Kind → Bool → ℕ 
   pub starred : (mode : Mode) (wanted : Option Kind) (flag : Bool) (room : ℕ) → may_be_absent mode ≡ true
       → number_of flag room < n → 1 ≤ room → (s : HeldScopes) (at : ℕ)
       → Ready true (declr mode wanted flag room) is_star stops_type s at
-  pub there : (mode : Mode) (wanted : Option Kind) (flag : Bool) (room : ℕ) (s : HeldScopes) (ts : List Lexeme) (x : Found Declared)
+  pub there : (mode : Mode) (wanted : Option Kind) (flag : Bool) (room : ℕ) (s : HeldScopes) (ts : List Lexeme)
+      (x : Found Declared)
       → declr mode wanted flag room s ts ≡ Ok x →
       length x.rest < length ts → (d : Declr) × (x.tree.declr ≡ some_declr d)
-  pub room : (mode : Mode) (wanted : Option Kind) (flag : Bool) (room : ℕ) (s : HeldScopes) (ts : List Lexeme) (x : Found Declared)
+  pub room : (mode : Mode) (wanted : Option Kind) (flag : Bool) (room : ℕ) (s : HeldScopes) (ts : List Lexeme)
+      (x : Found Declared)
       → declr mode wanted flag room s ts ≡ Ok x →
       length x.rest < length ts → 1 ≤ room
 

@@ -1,6 +1,5 @@
 -- What a reader leaves of the scopes: those round the innermost one, and inside an expression also all that an
--- enumerator
--- behind it is refused for.
+-- enumerator behind it is refused for.
 use Rattle.std.specs.Prelude.{◌≡◌, ℕ, Bool, true, false}
 use Rattle.typedef_scope.specs.declared.kind.Kind.TheVariants.{Constant}
 use Rattle.c_units.specs.HeldScopes.{HeldScopes, innermost, leave, may_declare}

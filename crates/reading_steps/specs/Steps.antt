@@ -2,9 +2,8 @@
 -- completed.
 --
 -- A completion is a list of tokens, and it is the reader itself that reads it: no tree is spoken of. Nothing is owed
--- where
--- nothing was taken, so a reader need not be one that could have begun. The bind that stands outside completes its own
--- rest.
+-- where nothing was taken, so a reader need not be one that could have begun. The bind that stands outside completes
+-- its own rest.
 use Rattle.std.specs.Prelude.{◌≡◌, ℕ, Bool, true, false, if◌then◌else◌, List, [], ◌∷◌, ◌++◌, length, ◌<◌, Option, Some, None, Ok, Err}
 use Rattle.c_words.specs.declared.kinds.TokenKind.{TokenKind}
 use Rattle.c_tree.specs.declared.lexeme.Lexeme.{Lexeme}
@@ -29,7 +28,8 @@ abbrev pub any : TokenKind → Bool
 any kind = true
 
 -- Tokens were taken, and the answer is the same before a token of the same kind, and before each with which it stops.
-pub record Answered {A : Type 0} (b : Bool) (read : Reader A) (stops : TokenKind → Bool) (s : HeldScopes) (ts : List Lexeme) (x : Found A) : Type 0 where
+pub record Answered {A : Type 0} (b : Bool) (read : Reader A) (stops : TokenKind → Bool) (s : HeldScopes)
+    (ts : List Lexeme) (x : Found A) : Type 0 where
   pub before : List Lexeme
   pub parts : ts ≡ before ++ x.rest
   pub ending : has_end ts ≡ true → has_end x.rest ≡ true
@@ -38,7 +38,8 @@ pub record Answered {A : Type 0} (b : Bool) (read : Reader A) (stops : TokenKind
   pub ended : (k : List Lexeme) → stops (kind_at k) ≡ true → read s (before ++ k) ≡ ends x.tree x.scopes k
 
 -- These tokens are read whole where these kinds, numbered from here on, stand behind them.
-pub record Completes {A : Type 0} (b : Bool) (read : Reader A) (stops : TokenKind → Bool) (s : HeldScopes) (before : List Lexeme) (at : ℕ) : Type 0 where
+pub record Completes {A : Type 0} (b : Bool) (read : Reader A) (stops : TokenKind → Bool) (s : HeldScopes)
+    (before : List Lexeme) (at : ℕ) : Type 0 where
   pub more : List TokenKind
   pub tree : A
   pub scopes : HeldScopes
@@ -52,7 +53,8 @@ Opened b read stops s [] = Unit {0}
 Opened b read stops s (t ∷ before) = (at : ℕ) → Completes b read stops s (t ∷ before) at
 
 -- Tokens were taken, and the next one is refused, with the same fault before whatever stands behind it.
-pub record Refused {A : Type 0} (b : Bool) (read : Reader A) (stops : TokenKind → Bool) (s : HeldScopes) (ts : List Lexeme) (e : Refusal) : Type 0 where
+pub record Refused {A : Type 0} (b : Bool) (read : Reader A) (stops : TokenKind → Bool) (s : HeldScopes)
+    (ts : List Lexeme) (e : Refusal) : Type 0 where
   pub before : List Lexeme
   pub rest : List Lexeme
   pub parts : ts ≡ before ++ rest
@@ -71,7 +73,8 @@ abbrev pub Good : {A : Type 0} → Bool → Reader A → (TokenKind → Bool) �
 Good b read stops s ts = Outcome b read stops s ts (read s ts)
 
 -- It can be read from nothing, beginning with a token of a test.
-pub record Ready {A : Type 0} (b : Bool) (read : Reader A) (front stops : TokenKind → Bool) (s : HeldScopes) (at : ℕ) : Type 0 where
+pub record Ready {A : Type 0} (b : Bool) (read : Reader A) (front stops : TokenKind → Bool) (s : HeldScopes)
+    (at : ℕ) : Type 0 where
   pub more : List TokenKind
   pub tree : A
   pub scopes : HeldScopes
@@ -85,12 +88,14 @@ pub record Law {A : Type 0} (b : Bool) (read : Reader A) (front stops : TokenKin
   pub ready : (s : HeldScopes) (at : ℕ) → Ready b read front stops s at
 
 -- What it answers before each token of a test, of tokens of which it takes one at least.
-pub record Gives {A : Type 0} (b : Bool) (a : Reader A) (middle : TokenKind → Bool) (s : HeldScopes) (tree : A) (scopes : HeldScopes) : Type 0 where
+pub record Gives {A : Type 0} (b : Bool) (a : Reader A) (middle : TokenKind → Bool) (s : HeldScopes) (tree : A)
+    (scopes : HeldScopes) : Type 0 where
   pub keeps : Kept b s scopes
   pub reads : (k : List Lexeme) → middle (kind_at k) ≡ true
       → (ts : List Lexeme) × (a s ts ≡ ends tree scopes k) × (length k < length ts)
 
 -- The same, whether it takes one or not.
-pub record Ends {A : Type 0} (b : Bool) (a : Reader A) (middle : TokenKind → Bool) (s : HeldScopes) (tree : A) (scopes : HeldScopes) : Type 0 where
+pub record Ends {A : Type 0} (b : Bool) (a : Reader A) (middle : TokenKind → Bool) (s : HeldScopes) (tree : A)
+    (scopes : HeldScopes) : Type 0 where
   pub keeps : Kept b s scopes
   pub reads : (k : List Lexeme) → middle (kind_at k) ≡ true → (ts : List Lexeme) × (a s ts ≡ ends tree scopes k)

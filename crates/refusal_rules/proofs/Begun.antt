@@ -17,12 +17,18 @@ pub units_begin_as_trees : UnitsAreTrees → UnitsBeginAsTrees
 units_begin_as_trees are wide before b =
     (b.items, record { behind = b.behind; spelled = b.formed.tokens; derived = are _ b.items b.formed.rules })
 
+-- what begins a well-formed unit begins one that is well formed but for its height
 pub units_begin_at_any_height : UnitsBeginAtAnyHeight
 units_begin_at_any_height wide before b = record {
   behind = b.behind;
   items = b.items;
   formed =
-      record { tokens = b.formed.tokens; parts = b.formed.rules.parts; scopes = b.formed.scopes; named = b.formed.named };
+      record {
+        tokens = b.formed.tokens;
+        parts = b.formed.rules.parts;
+        scopes = b.formed.scopes;
+        named = b.formed.named;
+      };
 }
 
 -- with the first of some tokens a unit begins that begins with all of them
@@ -31,17 +37,21 @@ begins_earlier wide front more b = record {
   behind = more ++ b.behind;
   items = b.items;
   formed =
-      subst (λ (all : List TokenKind). IsWellFormed wide (numbered all) b.items) (append_assoc front more b.behind) b.formed;
+      subst (λ (all : List TokenKind). IsWellFormed wide (numbered all) b.items)
+      (append_assoc front more b.behind) b.formed;
 }
 
+-- no refusal of a token is allowed with which, and others behind it, a well-formed unit begins
 pub none_is_earlier : NoneIsEarlier
 none_is_earlier wide tokens first at code begun allowed earlier =
     let m : ℕ = first - (at + 1) in
     let whole : first ≡ (at + 1) + m = omega arith in
     let parts : take first tokens ≡ take (at + 1) tokens
     ++ take m (drop (at + 1) tokens) = ap (λ (n : ℕ). take n tokens) whole ∙ take-add (at + 1) m tokens in
-    allowed.none (begins_earlier wide (take (at + 1) tokens) (take m (drop (at + 1) tokens)) (subst (BeginsUnit wide) parts begun))
+    allowed.none
+    (begins_earlier wide (take (at + 1) tokens) (take m (drop (at + 1) tokens)) (subst (BeginsUnit wide) parts begun))
 
+-- the first bad token may be refused for its syntax, where no unit of any height begins with the tokens up to it
 pub first_bad_is_allowed : UnitsBeginAsTrees → UnitsBeginAtAnyHeight → FirstBadIsAllowed
 first_bad_is_allowed trees heights wide tokens first bad none = record {
   there = bad.there;

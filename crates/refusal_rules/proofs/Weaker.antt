@@ -1,14 +1,15 @@
 -- What obeys all rules is a tree of the grammar: the lines of the grammar ask no more than the rules.
 use Rattle.std.specs.Prelude.{All, Option, None, Some, is_some}
-use Rattle.std.proofs.Common.{arith, ◌≡◌, ◌≢◌, ◌≤◌, ◌⊎◌, ℕ, suc, Bool, true, false, List, [], ◌∷◌, inl, inr, refl, sym, ap, subst}
+use Rattle.std.proofs.Common.{arith, ◌≡◌, ◌≢◌, ◌≤◌, ◌⊎◌, ℕ, suc, true, false, List, [], ◌∷◌, inl, inr, refl, sym, ap, subst}
 use Rattle.c_words.specs.declared.kinds.Keyword.{Keyword}
 use Rattle.c_words.specs.declared.kinds.Keyword.TheVariants.{Void, Char, Short, Int, Long, Float, Double, Signed, Unsigned, Bool as BoolWord, Complex, AnyComplex, BaseWord, Int128}
 use Rattle.c_tree.specs.declared.lexeme.Lexeme.{Lexeme}
 use Rattle.c_tree.specs.Tree.{Expr, operation, cast, prefix, sizeof_value, sizeof_type, extension, index, call, dot, arrow, post, compound, name_use, number_use, char_use, text_use, paren, statement_expr, va_arg, va_start, va_copy, offset, Operator, comma, assign, cond, binary, SomeExpr, no_expr, some_expr, Exprs, no_exprs, more_exprs, SpecWords, no_words, more_words, SpecWord, storage, thread, inline_word, noreturn, qualifier, basic, struct_type, enum_type, typedef_name, attribute, SomeBody, no_body, some_body, StructItems, no_struct_items, more_struct_items, StructItem, member, member_semi, member_assert, MemDeclrs, no_mem_declrs, more_mem_declrs, MemDeclr, named, unnamed, SomeValue, no_value, some_value, EnumType, enum_of, SomeEnumBody, no_enum_body, some_enum_body, Enumerators, no_enumerators, more_enumerators, Declr, pointer, declr_name, declr_paren, array, params, abs_pointer, abs_paren, abs_array, abs_params, SomeDeclr, no_declr, some_declr, SomeSize, no_size, some_size, ArraySize, size_value, size_star, Params, no_params, more_params, Init, init_value, init_braced, InitList, init_list, InitItems, no_init_items, more_init_items, Desigs, no_desigs, more_desigs, Desig, member_desig, index_desig, SomeInit, no_init, some_init, InitDeclrs, no_init_declrs, more_init_declrs, Declaration, declaration, Decl, decl_declaration, decl_assert, BlockItems, no_block_items, more_block_items, BlockItem, block_decl, block_stmt, Stmt, block, expr_stmt, attr_stmt, label, case_stmt, default_stmt, if_stmt, switch_stmt, while_stmt, do_stmt, for_stmt, goto_stmt, continue_stmt, break_stmt, return_stmt, asm_stmt, SomeElse, no_else, some_else, ForStart, start_declaration, start_value, complex_part, label_use, compat, choose, generic, Assocs, no_assocs, more_assocs, Assoc, typed_assoc, default_assoc, typeof_value, typeof_type, align, auto_word, identifiers, base_name, range_desig, old_desig, block_labels, case_range, goto_value}
 use Rattle.c_tree.specs.Levels.{IsOperator, left_level, right_level}
 use Rattle.c_tree.specs.Specifiers.{IsMix}
-use Rattle.c_tree.specs.WellFormed.{lists_identifiers, AreAssocs, IsAssoc, IsExpr, IsMiddle, IsSomeExpr, AreArguments, AreSteps, IsStep, AreDesigs, IsDesig, AreTypeWords, AreSpecWords, IsSpecWord, IsBody, AreStructItems, IsStructItem, AreMemDeclrs, IsMemDeclr, IsSomeValue, IsEnum, IsEnumBody, AreEnumerators, IsDeclr, IsSomeAbstract, IsSomeDirect, IsSize, IsArraySize, AreParams, IsSomeDeclr, IsInit, IsInitList, AreInitItems, IsSomeInit, AreInitDeclrs, IsDeclaration, IsDecl, AreBlockItems, IsBlockItem, is_named, IsStmt, IsOther, IsStart}
-use Rattle.c_tree.specs.Unit.{declares_function, is_round_name, Item, function_item, old_function_item, decl_item, asm_item, semi_item, IsItem}
+use Rattle.c_tree.specs.WellFormed.{AreAssocs, IsAssoc, IsExpr, IsMiddle, IsSomeExpr, AreArguments, AreSteps, IsStep, AreDesigs, IsDesig, AreTypeWords, AreSpecWords, IsSpecWord, IsBody, AreStructItems, IsStructItem, AreMemDeclrs, IsMemDeclr, IsSomeValue, IsEnum, IsEnumBody, AreEnumerators, IsDeclr, IsSomeAbstract, IsSomeDirect, IsSize, IsArraySize, AreParams, IsSomeDeclr, IsInit, IsInitList, AreInitItems, IsSomeInit, AreInitDeclrs, IsDeclaration, IsDecl, AreBlockItems, IsBlockItem, is_named, IsStmt, IsOther, IsStart}
+use Rattle.c_tree.specs.Unit.{declares_function, Item, function_item, old_function_item, decl_item, asm_item, semi_item, IsItem}
+use Rattle.c_tree.proofs.NamedDeclarators.{lister_is_named, round_is_named}
 use Rattle.c_specs.specs.declared.basic.Part.{Part}
 use Rattle.c_specs.specs.declared.basic.Part.TheVariants as word_parts
 use Rattle.c_specs.specs.declared.mix.Mix.{Mix}
@@ -43,6 +44,7 @@ other_is_none : (types : Types) → with_part types word_parts.Other ≡ None
 other_is_none Named = refl
 other_is_none (Words base mark) = refl
 
+-- a keyword with which a mix goes on is a basic type word
 spells_type : (before : Option Mix) (k : Keyword) → is_some (then_class before (classes.Spells k)) ≡ true
     → is_basic_word k ≡ true
 spells_type None k e = absurd cc
@@ -51,8 +53,10 @@ spells_type (Some mix) k e = on (type_or_other k)
     on : (is_basic_word k ≡ true) ⊎ (part_of k ≡ word_parts.Other) → is_basic_word k ≡ true
     on (inl is) = is
     on (inr other) =
-        let f : is_some (with_types mix (with_part mix.types word_parts.Other)) ≡ true = subst (λ (p : Part). is_some (with_types mix (with_part mix.types p)) ≡ true) other e in
-        let g : is_some (with_types mix None) ≡ true = subst (λ (o : Option Types). is_some (with_types mix o) ≡ true) (other_is_none mix.types) f in
+        let f : is_some (with_types mix (with_part mix.types word_parts.Other)) ≡ true =
+        subst (λ (p : Part). is_some (with_types mix (with_part mix.types p)) ≡ true) other e in
+        let g : is_some (with_types mix None) ≡ true =
+        subst (λ (o : Option Types). is_some (with_types mix o) ≡ true) (other_is_none mix.types) f in
         absurd cc
 
 append_pushed : (front : SpecWords) (w : SpecWord) (ws : SpecWords)
@@ -67,41 +71,15 @@ left_asks_less (assign p) n is low = low
 left_asks_less (cond middle colon) n is low = low
 left_asks_less (binary p) n is low = omega arith
 
+-- the grammar asks of the right operand of an operator no more than the precedence table does
 right_asks_less : (op : Operator) (n : ℕ) → IsOperator op → right_level op ≤ n → right_line op ≤ n
 right_asks_less comma n is low = low
 right_asks_less (assign p) n is low = low
 right_asks_less (cond middle colon) n is low = low
 right_asks_less (binary p) n is low = omega arith
 
--- a declarator of a function has a name
-round_is_named : (d : Declr) (above : Bool) → is_round_name d above ≡ true → is_named d ≡ true
-round_is_named (declr_name token name) above is = refl
-round_is_named (declr_paren opening attrs d closing) above is = refl
-round_is_named (params d opening ps dots closing) above is = refl
-round_is_named (pointer star words d) above is = refl
-round_is_named (array d opening words size closing) above is = refl
-round_is_named (identifiers d opening names closing) above is = refl
-round_is_named (base_name token) above is = refl
-round_is_named (abs_pointer star words d) above is = absurd cc
-round_is_named (abs_paren opening attrs d closing) above is = absurd cc
-round_is_named (abs_array d opening words size closing) above is = absurd cc
-round_is_named (abs_params d opening ps dots closing) above is = absurd cc
-
 pub function_is_named : (d : Declr) → declares_function d ≡ true → is_named d ≡ true
 function_is_named d is = round_is_named d false is
-
-pub lister_is_named : (d : Declr) → lists_identifiers d ≡ true → is_named d ≡ true
-lister_is_named (declr_name token name) is = refl
-lister_is_named (declr_paren opening attrs d closing) is = refl
-lister_is_named (params d opening ps dots closing) is = refl
-lister_is_named (pointer star words d) is = refl
-lister_is_named (array d opening words size closing) is = refl
-lister_is_named (identifiers d opening names closing) is = refl
-lister_is_named (base_name token) is = refl
-lister_is_named (abs_pointer star words d) is = absurd cc
-lister_is_named (abs_paren opening attrs d closing) is = absurd cc
-lister_is_named (abs_array d opening words size closing) is = absurd cc
-lister_is_named (abs_params d opening ps dots closing) is = absurd cc
 
 module _ (whole_are : WholeAreMixes) (goes : MixesGoOn) (all : List Lexeme) where
   mix_has_words : (ws : SpecWords) → IsMix ws → ws ≢ no_words
@@ -311,8 +289,14 @@ module _ (whole_are : WholeAreMixes) (goes : MixesGoOn) (all : List Lexeme) wher
 
     params_derive : (ps : Params) → AreParams all ps → DerivesParams all ps
     params_derive no_params h = tt
-    params_derive (more_params ws d attrs ps) h =
-        (mix_has_words ws h.0, words_derive no_words ws h.0 h.1, h.2, some_declr_derives d h.3, h.4, params_derive ps h.6)
+    params_derive (more_params ws d attrs ps) h = (
+      mix_has_words ws h.0,
+      words_derive no_words ws h.0 h.1,
+      h.2,
+      some_declr_derives d h.3,
+      h.4,
+      params_derive ps h.6,
+    )
 
     some_declr_derives : (d : SomeDeclr) → IsSomeDeclr all d → DerivesSomeDeclr all d
     some_declr_derives no_declr h = tt
@@ -375,7 +359,8 @@ module _ (whole_are : WholeAreMixes) (goes : MixesGoOn) (all : List Lexeme) wher
     stmt_derives (break_stmt keyword semi) h = tt
     stmt_derives (return_stmt keyword e semi) h = some_expr_derives e h
     stmt_derives (asm_stmt keyword words group semi) h = h
-    stmt_derives (case_range keyword e dots e2 colon s) h = (expr_derives e h.0, h.1, expr_derives e2 h.2, h.3, stmt_derives s h.4)
+    stmt_derives (case_range keyword e dots e2 colon s) h =
+        (expr_derives e h.0, h.1, expr_derives e2 h.2, h.3, stmt_derives s h.4)
     stmt_derives (goto_value keyword star e semi) h = expr_derives e h
 
     other_derives : (before : Stmt) (other : SomeElse) → IsOther all before other → DerivesOther all other
@@ -388,8 +373,10 @@ module _ (whole_are : WholeAreMixes) (goes : MixesGoOn) (all : List Lexeme) wher
 
   declarations_derive : (ds : List Declaration) → All (IsDeclaration all) ds → DeriveDeclarations all ds
   declarations_derive [] h = tt
-  declarations_derive (d ∷ ds) h =
-      (declaration_derives d (h 0 d (omega arith)), declarations_derive ds (λ k e below. h (suc k) e (omega (arith, below))))
+  declarations_derive (d ∷ ds) h = (
+    declaration_derives d (h 0 d (omega arith)),
+    declarations_derive ds (λ k e below. h (suc k) e (omega (arith, below))),
+  )
 
   pub item_derives : (item : Item) → IsItem all item → DerivesItem all item
   item_derives (function_item exts ws d attrs opening items closing) h = (

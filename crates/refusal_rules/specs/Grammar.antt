@@ -70,7 +70,8 @@ module _ (all : List Lexeme) where
     DerivesExpr (char_use token) = Unit {0}
     DerivesExpr (text_use texts) = texts ≢ []
     DerivesExpr (paren opening e closing) = DerivesExpr e
-    DerivesExpr (statement_expr opening opening2 items closing closing2) = DerivesBlockItems items × AreLabelsFirst items
+    DerivesExpr (statement_expr opening opening2 items closing closing2) =
+        DerivesBlockItems items × AreLabelsFirst items
     DerivesExpr (va_arg keyword opening e separator ws d closing) =
         DerivesExpr e × (ws ≢ no_words) × DerivesTypeWords ws × DerivesSomeAbstract d × (1 ≤ expr_level e)
     DerivesExpr (va_start keyword opening e separator e2 closing) =
@@ -82,10 +83,12 @@ module _ (all : List Lexeme) where
     DerivesExpr (complex_part keyword e) = DerivesExpr e × (13 ≤ expr_level e)
     DerivesExpr (label_use token name) = Unit {0}
     DerivesExpr (compat keyword opening ws d separator ws2 d2 closing) =
-        (ws ≢ no_words) × DerivesTypeWords ws × DerivesSomeAbstract d × (ws2 ≢ no_words) × DerivesTypeWords ws2 × DerivesSomeAbstract d2
+        (ws ≢ no_words) × DerivesTypeWords ws × DerivesSomeAbstract d × (ws2 ≢ no_words) × DerivesTypeWords ws2
+        × DerivesSomeAbstract d2
     DerivesExpr (choose keyword opening e separator e2 separator2 e3 closing) =
         DerivesExpr e × DerivesExpr e2 × DerivesExpr e3 × (1 ≤ expr_level e) × (1 ≤ expr_level e2) × (1 ≤ expr_level e3)
-    DerivesExpr (generic keyword opening e xs closing) = DerivesExpr e × (1 ≤ expr_level e) × (xs ≢ no_assocs) × DerivesAssocs xs
+    DerivesExpr (generic keyword opening e xs closing) =
+        DerivesExpr e × (1 ≤ expr_level e) × (xs ≢ no_assocs) × DerivesAssocs xs
 
     -- the associations of `_Generic`
     pub DerivesAssocs : Assocs → Type 0
@@ -136,7 +139,8 @@ module _ (all : List Lexeme) where
     pub DerivesDesig : Desig → Type 0
     DerivesDesig (member_desig token name) = Unit {0}
     DerivesDesig (index_desig opening e closing) = DerivesExpr e × (2 ≤ expr_level e)
-    DerivesDesig (range_desig opening e dots e2 closing) = DerivesExpr e × (2 ≤ expr_level e) × DerivesExpr e2 × (2 ≤ expr_level e2)
+    DerivesDesig (range_desig opening e dots e2 closing) =
+        DerivesExpr e × (2 ≤ expr_level e) × DerivesExpr e2 × (2 ≤ expr_level e2)
     DerivesDesig (old_desig name colon) = Unit {0}
 
     -- the specifiers of the name of a type (6.7.6)
@@ -258,7 +262,8 @@ module _ (all : List Lexeme) where
     pub DerivesParams : Params → Type 0
     DerivesParams no_params = Unit {0}
     DerivesParams (more_params ws d attrs ps) =
-        (ws ≢ no_words) × DerivesSpecWords ws × (has_auto ws ≡ false) × DerivesSomeDeclr d × AreAttrs all attrs × DerivesParams ps
+        (ws ≢ no_words) × DerivesSpecWords ws × (has_auto ws ≡ false) × DerivesSomeDeclr d × AreAttrs all attrs
+        × DerivesParams ps
 
     -- a declarator that may be absent
     pub DerivesSomeDeclr : SomeDeclr → Type 0
@@ -354,10 +359,12 @@ module _ (all : List Lexeme) where
   -- an item of a unit
   abbrev pub DerivesItem : Item → Type 0
   DerivesItem (function_item exts ws d attrs opening items closing) =
-      (ws ≢ no_words) × DerivesSpecWords ws × (has_auto ws ≡ false) × DerivesDeclr d × (is_named d ≡ true) × AreAttrs all attrs
+      (ws ≢ no_words) × DerivesSpecWords ws × (has_auto ws ≡ false) × DerivesDeclr d × (is_named d ≡ true)
+      × AreAttrs all attrs
       × DerivesBlockItems items × AreLabelsFirst items
   DerivesItem (old_function_item exts ws d attrs ds opening items closing) =
-      (ws ≢ no_words) × DerivesSpecWords ws × (has_auto ws ≡ false) × DerivesDeclr d × (is_named d ≡ true) × AreAttrs all attrs
+      (ws ≢ no_words) × DerivesSpecWords ws × (has_auto ws ≡ false) × DerivesDeclr d × (is_named d ≡ true)
+      × AreAttrs all attrs
       × DeriveDeclarations ds × DerivesBlockItems items × AreLabelsFirst items
   DerivesItem (decl_item d) = DerivesDecl d
   DerivesItem (asm_item keyword group semi) = IsGroup all group

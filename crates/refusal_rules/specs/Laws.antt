@@ -18,16 +18,19 @@ UnitsBeginAsTrees = (wide : Bool) (before : List TokenKind) → BeginsUnit wide 
 
 -- where a well-formed unit begins so, a unit that is well formed but for its height does
 abbrev pub UnitsBeginAtAnyHeight : Type 0
-UnitsBeginAtAnyHeight = (wide : Bool) (before : List TokenKind) → BeginsUnit wide before → BeginsUnitOfAnyHeight wide before
+UnitsBeginAtAnyHeight =
+    (wide : Bool) (before : List TokenKind) → BeginsUnit wide before → BeginsUnitOfAnyHeight wide before
 
 -- where a well-formed unit begins with the first tokens, no refusal of one of these is allowed
 abbrev pub NoneIsEarlier : Type 0
 NoneIsEarlier =
-    (wide : Bool) (tokens : List TokenKind) (first at : ℕ) (code : Code) → BeginsUnit wide (take first tokens) → IsAllowed wide tokens at code
+    (wide : Bool) (tokens : List TokenKind) (first at : ℕ) (code : Code) → BeginsUnit wide (take first tokens)
+    → IsAllowed wide tokens at code
     → ¬ (at < first)
 
 -- the refusal of the first bad token for its syntax is allowed, where the height is not what is wrong
 abbrev pub FirstBadIsAllowed : Type 0
 FirstBadIsAllowed =
-    (wide : Bool) (tokens : List TokenKind) (first : ℕ) → IsFirstBad wide tokens first → ¬ BeginsUnitOfAnyHeight wide (take (first + 1) tokens)
+    (wide : Bool) (tokens : List TokenKind) (first : ℕ) → IsFirstBad wide tokens first
+    → ¬ BeginsUnitOfAnyHeight wide (take (first + 1) tokens)
     → IsAllowed wide tokens first syntax

@@ -104,11 +104,13 @@ abbrev mutual
   expr_inside (label_use token name) s = []
   expr_inside (compat keyword opening ws d separator ws2 d2 closing) s =
       of_specs ws (spec_words_inside ws) s ++ some_declr_inside None d (behind s (spec_words_scopes ws))
-      ++ of_specs ws2 (spec_words_inside ws2) (behind_type ws d s) ++ some_declr_inside None d2 (behind (behind_type ws d s) (spec_words_scopes ws2))
+      ++ of_specs ws2 (spec_words_inside ws2) (behind_type ws d s)
+      ++ some_declr_inside None d2 (behind (behind_type ws d s) (spec_words_scopes ws2))
   expr_inside (choose keyword opening e separator e2 separator2 e3 closing) s =
       of_expr e (expr_inside e) s ++ of_expr e2 (expr_inside e2) (behind s (expr_scopes e))
       ++ of_expr e3 (expr_inside e3) (behind (behind s (expr_scopes e)) (expr_scopes e2))
-  expr_inside (generic keyword opening e xs closing) s = of_expr e (expr_inside e) s ++ assocs_inside xs (behind s (expr_scopes e))
+  expr_inside (generic keyword opening e xs closing) s =
+      of_expr e (expr_inside e) s ++ assocs_inside xs (behind s (expr_scopes e))
 
   -- the parts of the associations of `_Generic`
   pub assocs_inside : Assocs → Option HeldScopes → List Place
@@ -157,7 +159,8 @@ abbrev mutual
   spec_word_inside (typedef_name name) s = []
   spec_word_inside (attribute attr) s = []
   spec_word_inside (typeof_value keyword opening e closing) s = of_expr e (expr_inside e) s
-  spec_word_inside (typeof_type word opening ws d closing) s = of_specs ws (spec_words_inside ws) s ++ some_declr_inside None d (behind s (spec_words_scopes ws))
+  spec_word_inside (typeof_type word opening ws d closing) s =
+      of_specs ws (spec_words_inside ws) s ++ some_declr_inside None d (behind s (spec_words_scopes ws))
   spec_word_inside (align attr) s = []
   spec_word_inside (auto_word token) s = []
 
@@ -278,7 +281,8 @@ abbrev mutual
   pub desig_inside : Desig → Option HeldScopes → List Place
   desig_inside (member_desig token name) s = []
   desig_inside (index_desig opening e closing) s = of_expr e (expr_inside e) s
-  desig_inside (range_desig opening e dots e2 closing) s = of_expr e (expr_inside e) s ++ of_expr e2 (expr_inside e2) (behind s (expr_scopes e))
+  desig_inside (range_desig opening e dots e2 closing) s =
+      of_expr e (expr_inside e) s ++ of_expr e2 (expr_inside e2) (behind s (expr_scopes e))
   desig_inside (old_desig name colon) s = []
 
   -- the parts of an initialiser that may be left out
@@ -348,7 +352,8 @@ abbrev mutual
       for_start_inside start (entered s) ++ some_expr_inside e (behind (entered s) (for_start_scopes start))
       ++ some_expr_inside e2 (behind (behind (entered s) (for_start_scopes start)) (some_expr_scopes e))
       ++ stmt_inside t
-      (entered (behind (behind (behind (entered s) (for_start_scopes start)) (some_expr_scopes e)) (some_expr_scopes e2)))
+      (entered
+      (behind (behind (behind (entered s) (for_start_scopes start)) (some_expr_scopes e)) (some_expr_scopes e2)))
   stmt_inside (goto_stmt keyword name semi) s = []
   stmt_inside (continue_stmt keyword semi) s = []
   stmt_inside (break_stmt keyword semi) s = []

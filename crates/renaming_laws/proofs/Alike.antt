@@ -10,7 +10,8 @@ use Rattle.renaming_laws.proofs.Turning.{renamed_turns}
 
 pulled : (ren : Renaming) (sys other : System) (orders : List Order) → IsRenamed ren sys other → IsAccepted other orders
     → IsAccepted sys orders
-pulled ren sys other orders is h lattice order there = accepted_pulled ren sys other is lattice order (h lattice order there)
+pulled ren sys other orders is h lattice order there =
+    accepted_pulled ren sys other is lattice order (h lattice order there)
 
 module _ (ren : Renaming) (sys other : System) (is : IsRenamed ren sys other) where
   the_other_way : IsRenamed (turned ren) other sys
@@ -26,10 +27,16 @@ module _ (ren : Renaming) (sys other : System) (is : IsRenamed ren sys other) wh
         (subst (λ u. CanStay sys lattice order u r) (sym (ren.vars.from_to v)) h)
 
     printed_goes : (v r : ℕ) → Printed sys lattice order v r → Printed other lattice order (ren.vars.to v) r
-    printed_goes v r h = record { can = stays_pushed v r h.can; least = λ q k. h.least q (stays_pulled ren sys other is lattice order v q k) }
+    printed_goes v r h = record {
+      can = stays_pushed v r h.can;
+      least = λ q k. h.least q (stays_pulled ren sys other is lattice order v q k);
+    }
 
     printed_comes : (v r : ℕ) → Printed other lattice order (ren.vars.to v) r → Printed sys lattice order v r
-    printed_comes v r h = record { can = stays_pulled ren sys other is lattice order v r h.can; least = λ q k. h.least q (stays_pushed v q k) }
+    printed_comes v r h = record {
+      can = stays_pulled ren sys other is lattice order v r h.can;
+      least = λ q k. h.least q (stays_pushed v q k);
+    }
 
 -- systems that differ by their numbers are accepted alike, and the same is printed of them
 pub renamed_is_alike : RenamedIsAlike
@@ -37,7 +44,10 @@ renamed_is_alike ren sys other is =
     let turn = renamed_turns ren sys other is in
     record {
       accepted = λ orders. (pulled (turned ren) other sys orders turn, pulled ren sys other orders is);
-      accepted_in = λ lattice order. (accepted_pulled (turned ren) other sys turn lattice order, accepted_pulled ren sys other is lattice order);
-      exceeded = λ lattice order n. (exceeded_goes ren sys other is lattice order n, exceeded_comes ren sys other is lattice order n);
-      printed = λ lattice order v r. (printed_goes ren sys other is lattice order v r, printed_comes ren sys other is lattice order v r);
+      accepted_in = λ lattice order.
+          (accepted_pulled (turned ren) other sys turn lattice order, accepted_pulled ren sys other is lattice order);
+      exceeded = λ lattice order n.
+          (exceeded_goes ren sys other is lattice order n, exceeded_comes ren sys other is lattice order n);
+      printed = λ lattice order v r.
+          (printed_goes ren sys other is lattice order v r, printed_comes ren sys other is lattice order v r);
     }

@@ -1,7 +1,8 @@
 -- A numbering of the places of one list that leads to places of another: the other is no shorter.
-use Rattle.std.proofs.Common.{◌≡◌, ◌⊎◌, ℕ, zero, suc, ◌≤◌, ◌<◌, Bool, true, false, nat_eq, if◌then◌else◌, List, [], ◌∷◌, length, slice_get, Option, None, Some, refl, subst, sym, ap, ◌∙◌, inl, inr, arith}
+use Rattle.std.proofs.Common.{◌≡◌, ◌⊎◌, ℕ, zero, suc, ◌≤◌, ◌<◌, Bool, true, false, nat_eq, if◌then◌else◌, List, length, slice_get, Option, None, Some, refl, subst, sym, ap, ◌∙◌, inl, inr, arith}
 use Rattle.std.proofs.lemmas.Bool.{eqb-true, eq-eqb}
 use Rattle.std.proofs.lemmas.Option.{slice_get_within}
+use Rattle.qual_base.proofs.Lists.{stands_at}
 use Rattle.renaming_laws.specs.Renamings.{Numbering, turned, Agree, IsSameConstraint, IsSameSite}
 use Rattle.renaming_laws.specs.Laws.{RenamedHasAsMany}
 use Rattle.renaming_laws.proofs.Turning.{renamed_turns}
@@ -34,7 +35,9 @@ module _ (f : ℕ → ℕ) (a b : ℕ) (h : IsInto f (suc a) (suc b)) where
 
   inside_by : (n : ℕ) → n < a → ((f n ≡ b) × (put_off f a b n ≡ f a)) ⊎ ((f n ≡ b → ⊥) × (put_off f a b n ≡ f n))
       → put_off f a b n < b
-  inside_by n low (inl (last, is)) = subst (λ x. x < b) (sym is) (below_last (f a) b (h.inside a (omega arith)) (λ same. later n low (last ∙ sym same)))
+  inside_by n low (inl (last, is)) =
+      subst (λ x. x < b) (sym is)
+      (below_last (f a) b (h.inside a (omega arith)) (λ same. later n low (last ∙ sym same)))
   inside_by n low (inr (other, is)) = subst (λ x. x < b) (sym is) (below_last (f n) b (h.inside n (omega arith)) other)
 
   apart_by : (i j : ℕ) → i < a → j < a → put_off f a b i ≡ put_off f a b j
@@ -57,12 +60,6 @@ no_lower f zero b h = omega arith
 no_lower f (suc a) zero h = let low : f a < 0 = h.inside a (omega arith) in absurd (omega arith)
 no_lower f (suc a) (suc b) h = let less : a ≤ b = no_lower (put_off f a b) a b (put_off_into f a b h) in omega arith
 
--- at each place of a list something stands
-stands_at : {A : Type 0} (xs : List A) (n : ℕ) → n < length xs → (x : A) × (slice_get xs n ≡ Some x)
-stands_at [] n low = absurd (omega arith)
-stands_at (x ∷ xs) zero low = (x, refl)
-stands_at (x ∷ xs) (suc n) low = stands_at xs n (omega arith)
-
 found : {A : Type 0} (same : A → A → Type 0) (x : A) (ys : List A) (m : ℕ) (o : Option A) → slice_get ys m ≡ o
     → Agree same (Some x) o → m < length ys
 found same x ys m None is h = absurd h
@@ -73,7 +70,8 @@ pub no_shorter : {A : Type 0} (same : A → A → Type 0) (xs ys : List A) (it :
     ((n : ℕ) → Agree same (slice_get xs n) (slice_get ys (it.to n))) → length xs ≤ length ys
 no_shorter same xs ys it h = no_lower it.to (length xs) (length ys) (record {
   inside = λ n low. let is = stands_at xs n low in
-      found same is.0 ys (it.to n) (slice_get ys (it.to n)) refl (subst (λ o. Agree same o (slice_get ys (it.to n))) is.1 (h n));
+      found same is.0 ys (it.to n) (slice_get ys (it.to n)) refl
+      (subst (λ o. Agree same o (slice_get ys (it.to n))) is.1 (h n));
   apart = λ i j low high same. sym (it.from_to i) ∙ (ap (λ n. it.from n) same ∙ it.from_to j);
 })
 
@@ -86,7 +84,8 @@ renamed_has_as_many ren sys other is =
     let turn = renamed_turns ren sys other is in (
       both_ways (length sys.constraints) (length other.constraints)
           (no_shorter (IsSameConstraint ren) sys.constraints other.constraints ren.constraints is.constraints)
-          (no_shorter (IsSameConstraint (turned ren)) other.constraints sys.constraints (turned ren).constraints turn.constraints),
+          (no_shorter (IsSameConstraint (turned ren)) other.constraints sys.constraints
+          (turned ren).constraints turn.constraints),
       both_ways (length sys.sites) (length other.sites)
           (no_shorter (IsSameSite ren) sys.sites other.sites ren.sites is.sites)
           (no_shorter (IsSameSite (turned ren)) other.sites sys.sites (turned ren).sites turn.sites),

@@ -52,7 +52,8 @@ module _ (ren : Renaming) (sys other : System) (is : IsRenamed ren sys other) wh
       → Stands other lattice (ren.constraints.to n) (renamed_link ren link)
   stands lattice n link st =
       let found = found_in (IsSameConstraint ren) st.constraint (slice_get other.constraints (ren.constraints.to n))
-      (subst (λ o. Agree (IsSameConstraint ren) o (slice_get other.constraints (ren.constraints.to n))) st.there (is.constraints n)) in
+      (subst (λ o. Agree (IsSameConstraint ren) o (slice_get other.constraints (ren.constraints.to n))) st.there
+      (is.constraints n)) in
       record {
         constraint = found.it;
         there = found.is;
@@ -80,37 +81,47 @@ module _ (ren : Renaming) (sys other : System) (is : IsRenamed ren sys other) wh
       → IsCallString other (renamed_owner ren owner) (renamed_sites sites)
   call_string owner [] h = tt
   call_string owner (site ∷ []) h = (renamed_owner ren h.0, calls site h.0 owner h.1)
-  call_string owner (site ∷ before ∷ sites) h = (renamed_owner ren h.0, calls site h.0 owner h.1, call_string h.0 (before ∷ sites) h.2)
+  call_string owner (site ∷ before ∷ sites) h =
+      (renamed_owner ren h.0, calls site h.0 owner h.1, call_string h.0 (before ∷ sites) h.2)
 
   copy : (depth : ℕ) (owner : Owner) (sites : List ℕ) → IsCopy sys depth owner sites
       → IsCopy other depth (renamed_owner ren owner) (renamed_sites sites)
   copy depth Nobody sites h = ap (λ s. renamed_sites s) h
-  copy depth (Function f) sites h = (call_string (Function f) sites h.0, subst (λ n. n ≤ depth) (sym (length-map sites ren.sites.to)) h.1)
+  copy depth (Function f) sites h =
+      (call_string (Function f) sites h.0, subst (λ n. n ≤ depth) (sym (length-map sites ren.sites.to)) h.1)
 
   -- the copies of a variable
   copy_of : (depth v : ℕ) (sites : List ℕ) → IsCopy sys depth (owner_of sys v) sites
       → IsCopy other depth (owner_of other (ren.vars.to v)) (renamed_sites sites)
-  copy_of depth v sites h = subst (λ o. IsCopy other depth o (renamed_sites sites)) (sym (is.owners v)) (copy depth (owner_of sys v) sites h)
+  copy_of depth v sites h =
+      subst (λ o. IsCopy other depth o (renamed_sites sites)) (sym (is.owners v)) (copy depth (owner_of sys v) sites h)
 
   copy_either : (depth u v : ℕ) (sites : List ℕ) → IsCopy sys depth (either (owner_of sys u) (owner_of sys v)) sites →
-      IsCopy other depth (either (owner_of other (ren.vars.to u)) (owner_of other (ren.vars.to v))) (renamed_sites sites)
+      IsCopy other depth (either (owner_of other (ren.vars.to u)) (owner_of other (ren.vars.to v)))
+      (renamed_sites sites)
   copy_either depth u v sites h =
-      let same : either (owner_of other (ren.vars.to u)) (owner_of other (ren.vars.to v)) ≡ renamed_owner ren (either (owner_of sys u) (owner_of sys v)) =
+      let same : either (owner_of other (ren.vars.to u)) (owner_of other (ren.vars.to v))
+      ≡ renamed_owner ren (either (owner_of sys u) (owner_of sys v)) =
       ap (λ o. either o (owner_of other (ren.vars.to v))) (is.owners u)
-      ∙ (ap (λ o. either (renamed_owner ren (owner_of sys u)) o) (is.owners v) ∙ either_renamed ren (owner_of sys u) (owner_of sys v)) in
-      subst (λ o. IsCopy other depth o (renamed_sites sites)) (sym same) (copy depth (either (owner_of sys u) (owner_of sys v)) sites h)
+      ∙ (ap (λ o. either (renamed_owner ren (owner_of sys u)) o) (is.owners v)
+      ∙ either_renamed ren (owner_of sys u) (owner_of sys v)) in
+      subst (λ o. IsCopy other depth o (renamed_sites sites)) (sym same)
+      (copy depth (either (owner_of sys u) (owner_of sys v)) sites h)
 
   abbrev pub pulled : Assignment → Assignment
   pulled new v sites = new (ren.vars.to v) (renamed_sites sites)
 
   pub at_pulled : (new : Assignment) (v : ℕ) (sites : List ℕ)
       → at other new (ren.vars.to v) (renamed_sites sites) ≡ at sys (pulled new) v sites
-  at_pulled new v sites = ap (λ o. new (ren.vars.to v) (seen_from o (renamed_sites sites))) (is.owners v) ∙ ap (λ s. new (ren.vars.to v) s) (seen_renamed ren (owner_of sys v) sites)
+  at_pulled new v sites =
+      ap (λ o. new (ren.vars.to v) (seen_from o (renamed_sites sites))) (is.owners v)
+      ∙ ap (λ s. new (ren.vars.to v) s) (seen_renamed ren (owner_of sys v) sites)
 
   module _ (lattice : ℕ) (order : Order) where
     -- the order of two variables in two copies
     both_pulled : (new : Assignment) (u v : ℕ) (from to : List ℕ) →
-        leq order (at other new (ren.vars.to u) (renamed_sites from)) (at other new (ren.vars.to v) (renamed_sites to)) ≡ true →
+        leq order (at other new (ren.vars.to u) (renamed_sites from))
+        (at other new (ren.vars.to v) (renamed_sites to)) ≡ true →
         leq order (at sys (pulled new) u from) (at sys (pulled new) v to) ≡ true
     both_pulled new u v from to h = subst (λ x. leq order x (at sys (pulled new) v to) ≡ true) (at_pulled new u from)
         (subst (λ y. leq order (at other new (ren.vars.to u) (renamed_sites from)) y ≡ true) (at_pulled new v to) h)
@@ -121,36 +132,45 @@ module _ (ren : Renaming) (sys other : System) (is : IsRenamed ren sys other) wh
 
     owner_copy : (depth : ℕ) (site new : Site) (sites : List ℕ) → IsSameSite ren site new
         → IsCopy sys depth site.owner sites → IsCopy other depth new.owner (renamed_sites sites)
-    owner_copy depth site new sites same h = subst (λ o. IsCopy other depth o (renamed_sites sites)) (sym same.owner_is) (copy depth site.owner sites h)
+    owner_copy depth site new sites same h =
+        subst (λ o. IsCopy other depth o (renamed_sites sites)) (sym same.owner_is) (copy depth site.owner sites h)
 
     pub rises_pulled : (depth : ℕ) (new : Assignment) → Rises other lattice order depth new
         → Rises sys lattice order depth (pulled new)
     rises_pulled depth new h = record {
       elements = λ v sites. h.elements (ren.vars.to v) (renamed_sites sites);
       le = λ n u v sites st here. both_pulled new u v sites sites
-          (h.le (ren.constraints.to n) (ren.vars.to u) (ren.vars.to v) (renamed_sites sites) (stands lattice n (Le u v) st) (copy_either depth u v sites here));
+          (h.le (ren.constraints.to n) (ren.vars.to u) (ren.vars.to v) (renamed_sites sites)
+          (stands lattice n (Le u v) st) (copy_either depth u v sites here));
       const = λ n e v sites st here. subst (λ x. leq order e x ≡ true) (at_pulled new v sites)
-          (h.const (ren.constraints.to n) e (ren.vars.to v) (renamed_sites sites) (stands lattice n (Const lattice e v) st) (copy_of depth v sites here));
+          (h.const (ren.constraints.to n) e (ren.vars.to v) (renamed_sites sites)
+          (stands lattice n (Const lattice e v) st) (copy_of depth v sites here));
       enter = λ n s u v site sites st there here room.
           let found = site_there s site there in
           both_pulled new u v sites (s ∷ sites)
-          (h.enter (ren.constraints.to n) (ren.sites.to s) (ren.vars.to u) (ren.vars.to v) found.it (renamed_sites sites) (stands lattice n (Enter s u v) st) found.is
+          (h.enter (ren.constraints.to n) (ren.sites.to s) (ren.vars.to u) (ren.vars.to v) found.it
+          (renamed_sites sites) (stands lattice n (Enter s u v) st) found.is
           (owner_copy depth site found.it sites found.alike here) (fits depth s sites room));
       leave = λ n s u v site sites st there here room.
           let found = site_there s site there in
           both_pulled new u v (s ∷ sites) sites
-          (h.leave (ren.constraints.to n) (ren.sites.to s) (ren.vars.to u) (ren.vars.to v) found.it (renamed_sites sites) (stands lattice n (Leave s u v) st) found.is
+          (h.leave (ren.constraints.to n) (ren.sites.to s) (ren.vars.to u) (ren.vars.to v) found.it
+          (renamed_sites sites) (stands lattice n (Leave s u v) st) found.is
           (owner_copy depth site found.it sites found.alike here) (fits depth s sites room));
     }
 
     pub keeps_pulled : (depth : ℕ) (new : Assignment) (n : ℕ)
         → Keeps other lattice order depth new (ren.constraints.to n) → Keeps sys lattice order depth (pulled new) n
     keeps_pulled depth new n h e v sites st here = subst (λ x. leq order x e ≡ true) (at_pulled new v sites)
-        (h e (ren.vars.to v) (renamed_sites sites) (stands lattice n (Bound v lattice e) st) (copy_of depth v sites here))
+        (h e (ren.vars.to v) (renamed_sites sites) (stands lattice n (Bound v lattice e) st)
+        (copy_of depth v sites here))
 
     pub meets_pulled : (depth : ℕ) (new : Assignment) → Meets other lattice order depth new
         → Meets sys lattice order depth (pulled new)
-    meets_pulled depth new h = record { rises = rises_pulled depth new h.rises; bound = λ n. keeps_pulled depth new n (h.bound (ren.constraints.to n)) }
+    meets_pulled depth new h = record {
+      rises = rises_pulled depth new h.rises;
+      bound = λ n. keeps_pulled depth new n (h.bound (ren.constraints.to n));
+    }
 
     pub accepted_pulled : IsAcceptedIn other lattice order → IsAcceptedIn sys lattice order
     accepted_pulled h depth = (pulled (h depth).0, meets_pulled depth (h depth).0 (h depth).1)
@@ -159,7 +179,8 @@ module _ (ren : Renaming) (sys other : System) (is : IsRenamed ren sys other) wh
     stays_pulled v r h depth = (
       pulled (h depth).0,
       meets_pulled depth (h depth).0 (h depth).1,
-      λ sites here. subst (λ x. leq order x r ≡ true) (at_pulled (h depth).0 v sites) ((h depth).2 (renamed_sites sites) (copy_of depth v sites here)),
+      λ sites here. subst (λ x. leq order x r ≡ true) (at_pulled (h depth).0 v sites)
+          ((h depth).2 (renamed_sites sites) (copy_of depth v sites here)),
     )
 
     pub exceeded_goes : (n : ℕ) → IsExceeded sys lattice order n → IsExceeded other lattice order (ren.constraints.to n)
@@ -168,5 +189,6 @@ module _ (ren : Renaming) (sys other : System) (is : IsRenamed ren sys other) wh
       element = h.element;
       bound = stands lattice n (Bound h.var lattice h.element) h.bound;
       depth = h.depth;
-      unmet = λ new rises keeps. h.unmet (pulled new) (rises_pulled h.depth new rises) (keeps_pulled h.depth new n keeps);
+      unmet = λ new rises keeps.
+          h.unmet (pulled new) (rises_pulled h.depth new rises) (keeps_pulled h.depth new n keeps);
     }

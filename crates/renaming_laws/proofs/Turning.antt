@@ -24,13 +24,18 @@ owner_back ren (Function f) = ap (λ g. Function g) (ren.functions.from_to f)
 
 -- a link that is renamed and renamed back is the link
 link_back : (ren : Renaming) (l : Link) → renamed_link (turned ren) (renamed_link ren l) ≡ l
-link_back ren (Le u v) = ap (λ x. Le x (ren.vars.from (ren.vars.to v))) (ren.vars.from_to u) ∙ ap (λ y. Le u y) (ren.vars.from_to v)
+link_back ren (Le u v) =
+    ap (λ x. Le x (ren.vars.from (ren.vars.to v))) (ren.vars.from_to u) ∙ ap (λ y. Le u y) (ren.vars.from_to v)
 link_back ren (Const l e v) = ap (λ x. Const l e x) (ren.vars.from_to v)
 link_back ren (Bound v l e) = ap (λ x. Bound x l e) (ren.vars.from_to v)
-link_back ren (Enter s u v) = ap (λ x. Enter x (ren.vars.from (ren.vars.to u)) (ren.vars.from (ren.vars.to v))) (ren.sites.from_to s)
-    ∙ (ap (λ x. Enter s x (ren.vars.from (ren.vars.to v))) (ren.vars.from_to u) ∙ ap (λ x. Enter s u x) (ren.vars.from_to v))
-link_back ren (Leave s u v) = ap (λ x. Leave x (ren.vars.from (ren.vars.to u)) (ren.vars.from (ren.vars.to v))) (ren.sites.from_to s)
-    ∙ (ap (λ x. Leave s x (ren.vars.from (ren.vars.to v))) (ren.vars.from_to u) ∙ ap (λ x. Leave s u x) (ren.vars.from_to v))
+link_back ren (Enter s u v) =
+    ap (λ x. Enter x (ren.vars.from (ren.vars.to u)) (ren.vars.from (ren.vars.to v))) (ren.sites.from_to s)
+    ∙ (ap (λ x. Enter s x (ren.vars.from (ren.vars.to v))) (ren.vars.from_to u)
+    ∙ ap (λ x. Enter s u x) (ren.vars.from_to v))
+link_back ren (Leave s u v) =
+    ap (λ x. Leave x (ren.vars.from (ren.vars.to u)) (ren.vars.from (ren.vars.to v))) (ren.sites.from_to s)
+    ∙ (ap (λ x. Leave s x (ren.vars.from (ren.vars.to v))) (ren.vars.from_to u)
+    ∙ ap (λ x. Leave s u x) (ren.vars.from_to v))
 
 -- a constraint that is another under new numbers is that under which the other is renamed back
 constraint_turns : (ren : Renaming) (old new : Constraint) → IsSameConstraint ren old new
@@ -50,13 +55,18 @@ site_turns ren old new h = record {
 -- where one system is another under new numbers, that one is the first under the old numbers
 pub renamed_turns : RenamedTurns
 renamed_turns ren sys other is = record {
-  constraints = λ m. agree_turns (IsSameConstraint ren) (IsSameConstraint (turned ren)) (slice_get sys.constraints (ren.constraints.from m)) (slice_get other.constraints m)
+  constraints = λ m. agree_turns (IsSameConstraint ren) (IsSameConstraint (turned ren))
+      (slice_get sys.constraints (ren.constraints.from m)) (slice_get other.constraints m)
       (constraint_turns ren)
-      (subst (λ n. Agree (IsSameConstraint ren) (slice_get sys.constraints (ren.constraints.from m)) (slice_get other.constraints n)) (ren.constraints.to_from m)
+      (subst (λ n. Agree (IsSameConstraint ren) (slice_get sys.constraints (ren.constraints.from m))
+      (slice_get other.constraints n)) (ren.constraints.to_from m)
       (is.constraints (ren.constraints.from m)));
-  sites = λ m. agree_turns (IsSameSite ren) (IsSameSite (turned ren)) (slice_get sys.sites (ren.sites.from m)) (slice_get other.sites m)
+  sites = λ m. agree_turns (IsSameSite ren) (IsSameSite (turned ren)) (slice_get sys.sites (ren.sites.from m))
+      (slice_get other.sites m)
       (site_turns ren)
-      (subst (λ n. Agree (IsSameSite ren) (slice_get sys.sites (ren.sites.from m)) (slice_get other.sites n)) (ren.sites.to_from m) (is.sites (ren.sites.from m)));
+      (subst (λ n. Agree (IsSameSite ren) (slice_get sys.sites (ren.sites.from m)) (slice_get other.sites n))
+      (ren.sites.to_from m) (is.sites (ren.sites.from m)));
   owners = λ w. sym (owner_back ren (owner_of sys (ren.vars.from w)))
-      ∙ ap (λ o. renamed_owner (turned ren) o) (sym (is.owners (ren.vars.from w)) ∙ ap (λ v. owner_of other v) (ren.vars.to_from w));
+      ∙ ap (λ o. renamed_owner (turned ren) o)
+      (sym (is.owners (ren.vars.from w)) ∙ ap (λ v. owner_of other v) (ren.vars.to_from w));
 }

@@ -7,8 +7,7 @@ use Rattle.renaming_laws.specs.Renamings.{Renaming, turned, IsRenamed}
 use Rattle.renaming_laws.specs.Example as example
 
 -- Both are accepted or neither is, in all lattices and in each; bounds are exceeded by their numbers, and what is
--- printed of a
--- variable of the one is printed of it in the other.
+-- printed of a variable of the one is printed of it in the other.
 pub record AreAlike (ren : Renaming) (sys other : System) : Type 0 where
   pub accepted : (orders : List Order) → IsAccepted sys orders ↔ IsAccepted other orders
   pub accepted_in : (lattice : ℕ) (order : Order) → IsAcceptedIn sys lattice order ↔ IsAcceptedIn other lattice order

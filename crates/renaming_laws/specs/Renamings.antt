@@ -9,8 +9,7 @@ use Rattle.flow_graph.specs.declared.constraint.Site.{Site}
 use Rattle.flow_graph.specs.System.{System, owner_of}
 
 -- A numbering: the new number of each old one and the old one of each new one. No two have one new number, and no new
--- number
--- is left out.
+-- number is left out.
 pub record Numbering : Type 0 where
   pub to : ℕ → ℕ
   pub from : ℕ → ℕ
@@ -30,7 +29,12 @@ back it = record { to = it.from; from = it.to; from_to = it.to_from; to_from = i
 
 -- the renaming the other way
 abbrev pub turned : Renaming → Renaming
-turned ren = record { vars = back ren.vars; sites = back ren.sites; functions = back ren.functions; constraints = back ren.constraints }
+turned ren = record {
+  vars = back ren.vars;
+  sites = back ren.sites;
+  functions = back ren.functions;
+  constraints = back ren.constraints;
+}
 
 -- an owner under new numbers
 abbrev pub renamed_owner : Renaming → Owner → Owner

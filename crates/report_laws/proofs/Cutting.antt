@@ -12,7 +12,8 @@ pub parts_of : (test : ℕ → Bool) (xs : List ℕ)
 parts_of test [] = ([], [], refl)
 parts_of test (x ∷ xs) =
     let deeper = parts_of test xs in
-    elim (test x) as (λ b. (part : List ℕ) × (parts : List (List ℕ)) × (cond b ([] ∷ slice_split test xs) (onto_first x (slice_split test xs)) ≡ part ∷ parts))
+    elim (test x) as (λ b. (part : List ℕ) × (parts : List (List ℕ))
+    × (cond b ([] ∷ slice_split test xs) (onto_first x (slice_split test xs)) ≡ part ∷ parts))
     [ true ↦ ([], slice_split test xs, refl) | false ↦ (x ∷ deeper.0, deeper.1, ap (onto_first x) deeper.2) ]
 
 two_parts : (x part : List ℕ) (parts : List (List ℕ))
@@ -25,7 +26,8 @@ pub line_first : (x rest : List ℕ) → has 10 x ≡ false → lines_of (line x
 line_first x rest free =
     let test : ℕ → Bool = λ b. b == 10 in
     let more = parts_of test rest in
-    let split : slice_split test (x ++ 10 ∷ rest) ≡ x ∷ slice_split test rest = slice_split_at test x 10 rest (all_lack 10 x free) refl in
+    let split : slice_split test (x ++ 10 ∷ rest) ≡ x ∷ slice_split test rest =
+    slice_split_at test x 10 rest (all_lack 10 x free) refl in
     ap lines_of (append_assoc x (10 ∷ []) rest) ∙ ap lines_in split
     ∙ ap (λ (pieces : List (List ℕ)). lines_in (x ∷ pieces)) more.2
     ∙ two_parts x more.0 more.1

@@ -34,9 +34,12 @@ through_kind n small = ap through_line (decimal_is_read n (omega (arith, small))
 -- a text that begins with a digit is no number of a sub-path
 no_sub : (d : ℕ) (rest : List ℕ) → d < 58 → behind (codes "sub ") (d ∷ rest) ≡ None
 unfolding behind
-no_sub d rest digit = let other : (d == 115) ≡ false = ne_eqb d 115 (λ same. omega (arith, digit, same)) in rw other refl
+no_sub d rest digit =
+    let other : (d == 115) ≡ false = ne_eqb d 115 (λ same. omega (arith, digit, same)) in
+    rw other refl
 
-two_words : (n : ℕ) (word : List ℕ) (pieces : List (List ℕ)) (more : (part : List ℕ) × (parts : List (List ℕ)) × (pieces ≡ part ∷ parts)) →
+two_words : (n : ℕ) (word : List ℕ) (pieces : List (List ℕ))
+    (more : (part : List ℕ) × (parts : List (List ℕ)) × (pieces ≡ part ∷ parts)) →
     first_word (word ∷ pieces) ≡ first_word (word ∷ more.0 ∷ more.1)
 two_words n word pieces more = ap (λ (ps : List (List ℕ)). first_word (word ∷ ps)) more.2
 
@@ -46,7 +49,8 @@ numbered : (n : ℕ) (x : List ℕ) → n < 2 ^ 32 - 1
 numbered n x small =
     let test : ℕ → Bool = λ b. b == 32 in
     let more = parts_of test x in
-    ap first_word (slice_split_at test (decimal n) 32 x (all_lack 32 (decimal n) (decimal_lacks 32 n (omega arith))) refl)
+    ap first_word
+    (slice_split_at test (decimal n) 32 x (all_lack 32 (decimal n) (decimal_lacks 32 n (omega arith))) refl)
     ∙ two_words n (decimal n) (slice_split test x) more
     ∙ ap take_line (decimal_is_read n (omega (arith, small)))
     ∙ ap Take (capped_same n small)

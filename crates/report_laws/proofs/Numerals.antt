@@ -24,7 +24,8 @@ append_behind : (v w : ℕ) (ds : List ℕ) (e : ℕ) → number_behind v ds ≡
 append_behind v w [] e is digit = let same : v ≡ w = cc in rw (digit, same) refl
 append_behind v w (d ∷ ds) e is digit =
     (elim (is_ascii_digit d) as
-    (λ b. cond b (number_behind (10 * v + (d - 48)) ds) None ≡ Some w → cond b (number_behind (10 * v + (d - 48)) (ds ++ e ∷ [])) None ≡ Some (10 * w + (e - 48)))
+    (λ b. cond b (number_behind (10 * v + (d - 48)) ds) None ≡ Some w
+    → cond b (number_behind (10 * v + (d - 48)) (ds ++ e ∷ [])) None ≡ Some (10 * w + (e - 48)))
     [ true ↦ λ h. append_behind (10 * v + (d - 48)) w ds e h digit | false ↦ λ h. absurd cc ]) is
 
 -- a number below 10 is written by its one digit
@@ -65,7 +66,9 @@ decimal_writes n fits = decimal_by_steps Writes one_digit more_digits n fits
 is_read : (d : ℕ) (rest : List ℕ) → (rest ≡ []) ⊎ (48 < d) → number_of (d ∷ rest) ≡ number_behind 0 (d ∷ rest)
 is_read d [] alone = refl
 is_read d (e ∷ es) (inl is) = absurd cc
-is_read d (e ∷ es) (inr above) = let other : (d == 48) ≡ false = ne_eqb d 48 (λ same. omega (arith, above, same)) in rw other refl
+is_read d (e ∷ es) (inr above) =
+    let other : (d == 48) ≡ false = ne_eqb d 48 (λ same. omega (arith, above, same)) in
+    rw other refl
 
 -- a number below two to the 64 that is written in decimals is read as itself
 pub decimal_is_read : (n : ℕ) → n < 2 ^ 64 → number_of (decimal n) ≡ Some n

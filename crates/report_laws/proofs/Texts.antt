@@ -1,5 +1,6 @@
 -- The lines of the texts of path proofs.
 use Rattle.std.proofs.Common.{◌≡◌, ℕ, ◌+◌, ◌-◌, ◌^◌, ◌<◌, ◌≤◌, List, [], ◌∷◌, ◌++◌, length, map, slice_get, Option, Some, refl, sym, ◌∙◌, ap, arith, codes, decimal, append_assoc, length-append}
+use Rattle.std.proofs.lemmas.Option.{slice_get_within}
 use Rattle.flow_graph.specs.declared.constraint.Constraint.{Constraint}
 use Rattle.flow_graph.specs.declared.proof.PathStep.{PathStep}
 use Rattle.flow_graph.specs.declared.proof.PathStep.TheVariants.{Take as TakeStep, Sub as SubStep}
@@ -16,11 +17,13 @@ use Rattle.report_laws.specs.Laws.{written, error_of, errors_of}
 use Rattle.report_laws.proofs.Cutting.{line_first}
 use Rattle.report_laws.proofs.LineKinds.{error_kind, path_kind, sub_kind, through_kind, take_kind, rejected_kind}
 use Rattle.report_laws.proofs.OneLine.{Free, then_free, number_free, place_free, elem_free, link_free}
-use Rattle.report_laws.proofs.Known.{AllKnown, SubsKnown, proof_known, within_of}
+use Rattle.report_laws.proofs.Known.{AllKnown, SubsKnown, proof_known}
 
 -- words one behind the other, in either way of joining them
 words_of : (d p l : List ℕ) → d ++ 32 ∷ [] ++ p ++ 32 ∷ [] ++ l ≡ d ++ 32 ∷ (p ++ 32 ∷ l)
-words_of d p l = append_assoc (d ++ 32 ∷ [] ++ p) (32 ∷ []) l ∙ append_assoc (d ++ 32 ∷ []) p (32 ∷ l) ∙ append_assoc d (32 ∷ []) (p ++ 32 ∷ l)
+words_of d p l =
+    append_assoc (d ++ 32 ∷ [] ++ p) (32 ∷ []) l ∙ append_assoc (d ++ 32 ∷ []) p (32 ∷ l)
+    ∙ append_assoc d (32 ∷ []) (p ++ 32 ∷ l)
 
 three_parts : (a b c rest : List ℕ) → a ++ b ++ c ++ rest ≡ a ++ (b ++ (c ++ rest))
 three_parts a b c rest = append_assoc (a ++ b) c rest ∙ append_assoc a b (c ++ rest)
@@ -36,11 +39,13 @@ errors_then (e ∷ errors) behind = Error ∷ sub_lines 1 e.subs (Path ∷ step_
 then_append : (one two : List WrittenError) (behind : List Line)
     → errors_then (one ++ two) behind ≡ errors_then one (errors_then two behind)
 then_append [] two behind = refl
-then_append (e ∷ one) two behind = ap (λ (ls : List Line). Error ∷ sub_lines 1 e.subs (Path ∷ step_lines e.main ls)) (then_append one two behind)
+then_append (e ∷ one) two behind =
+    ap (λ (ls : List Line). Error ∷ sub_lines 1 e.subs (Path ∷ step_lines e.main ls)) (then_append one two behind)
 
 pub then_nothing : (errors : List WrittenError) → errors_then errors [] ≡ error_lines errors
 then_nothing [] = refl
-then_nothing (e ∷ errors) = ap (λ (ls : List Line). Error ∷ sub_lines 1 e.subs (Path ∷ step_lines e.main ls)) (then_nothing errors)
+then_nothing (e ∷ errors) =
+    ap (λ (ls : List Line). Error ∷ sub_lines 1 e.subs (Path ∷ step_lines e.main ls)) (then_nothing errors)
 
 module _ (scene : Scene) (sys : System) (one : HasNoFeeds scene) (few : length sys.constraints ≤ most_constraints) where
   take_line : (edge : ℕ) (c : Constraint) (rest : List ℕ) → edge < 2 ^ 32 - 1
@@ -49,23 +54,29 @@ module _ (scene : Scene) (sys : System) (one : HasNoFeeds scene) (few : length s
       let place = place_text scene c.span.unit c.span.from in
       let link = link_text scene c.link in
       let front = codes "  " ++ decimal edge ++ codes " " in
-      let front_free : Free front = then_free (codes "  " ++ decimal edge) (codes " ") (then_free (codes "  ") (decimal edge) refl (number_free edge)) refl in
+      let front_free : Free front = then_free (codes "  " ++ decimal edge) (codes " ")
+      (then_free (codes "  ") (decimal edge) refl (number_free edge)) refl in
       let free : Free (front ++ place ++ codes " " ++ link) =
-      then_free (front ++ place ++ codes " ") link (then_free (front ++ place) (codes " ") (then_free front place front_free (place_free scene one c.span.unit c.span.from)) refl) (link_free scene one c.link) in
+      then_free (front ++ place ++ codes " ") link (then_free (front ++ place) (codes " ")
+      (then_free front place front_free (place_free scene one c.span.unit c.span.from)) refl)
+      (link_free scene one c.link) in
       let kind : line_kind (front ++ place ++ codes " " ++ link) ≡ Take edge =
-      ap (λ (t : List ℕ). line_kind (codes "  " ++ t)) (words_of (decimal edge) place link) ∙ take_kind edge (place ++ 32 ∷ link) small in
+      ap (λ (t : List ℕ). line_kind (codes "  " ++ t)) (words_of (decimal edge) place link)
+      ∙ take_kind edge (place ++ 32 ∷ link) small in
       line_first (front ++ place ++ codes " " ++ link) rest free ∙ ap (λ (l : Line). l ∷ lines_of rest) kind
 
   through_line : (number : ℕ) (rest : List ℕ) → number < 2 ^ 32 - 1
       → lines_of (line (codes "  sub " ++ decimal number) ++ rest) ≡ Through number ∷ lines_of rest
   through_line number rest small =
-      line_first (codes "  sub " ++ decimal number) rest (then_free (codes "  sub ") (decimal number) refl (number_free number))
+      line_first (codes "  sub " ++ decimal number) rest
+      (then_free (codes "  sub ") (decimal number) refl (number_free number))
       ∙ ap (λ (l : Line). l ∷ lines_of rest) (through_kind number small)
 
   heading : (number : ℕ) (rest : List ℕ) → number < 2 ^ 32 - 1
       → lines_of (line (codes "sub " ++ decimal number) ++ rest) ≡ Sub number ∷ lines_of rest
   heading number rest small =
-      line_first (codes "sub " ++ decimal number) rest (then_free (codes "sub ") (decimal number) refl (number_free number))
+      line_first (codes "sub " ++ decimal number) rest
+      (then_free (codes "sub ") (decimal number) refl (number_free number))
       ∙ ap (λ (l : Line). l ∷ lines_of rest) (sub_kind number small)
 
   steps_lines : (steps : List PathStep) (rest : List ℕ) → AllKnown sys steps
@@ -75,7 +86,7 @@ module _ (scene : Scene) (sys : System) (one : HasNoFeeds scene) (few : length s
       let c = known.0.0 in
       let there = known.0.1 in
       let behind = steps_text scene sys steps in
-      let within = within_of sys.constraints edge c there in
+      let within = slice_get_within sys.constraints edge c there in
       ap lines_of (append_assoc (constraint_text scene edge (slice_get sys.constraints edge)) behind rest)
       ∙ ap (λ (o : Option Constraint). lines_of (constraint_text scene edge o ++ (behind ++ rest))) there
       ∙ take_line edge c (behind ++ rest) (omega (arith, within, few))
@@ -96,7 +107,8 @@ module _ (scene : Scene) (sys : System) (one : HasNoFeeds scene) (few : length s
       ap lines_of (three_parts (line (codes "sub " ++ decimal k)) here more rest)
       ∙ heading k (here ++ (more ++ rest)) (omega (arith, small))
       ∙ ap (λ (ls : List Line). Sub k ∷ ls)
-      (steps_lines steps (more ++ rest) known.0 ∙ ap (step_lines (map written steps)) (subs_lines (k + 1) subs rest known.1 (omega (arith, small))))
+      (steps_lines steps (more ++ rest) known.0
+      ∙ ap (step_lines (map written steps)) (subs_lines (k + 1) subs rest known.1 (omega (arith, small))))
 
   subs_long : (k : ℕ) (subs : List (List PathStep)) → length subs ≤ length (subs_text scene sys k subs)
   subs_long k [] = omega arith
@@ -105,27 +117,38 @@ module _ (scene : Scene) (sys : System) (one : HasNoFeeds scene) (few : length s
       let here = steps_text scene sys steps in
       let more = subs_text scene sys (k + 1) subs in
       let deeper = subs_long (k + 1) subs in
-      omega (arith, deeper, length-append (line word ++ here) more, length-append (line word) here, length-append word (10 ∷ []))
+      omega (
+        arith,
+        deeper,
+        length-append (line word ++ here) more,
+        length-append (line word) here,
+        length-append word (10 ∷ []),
+      )
 
   -- the text above a path proof
   head_free : (lattice elem bound unit token : ℕ)
-      → Free (codes "error " ++ elem_text scene lattice elem ++ codes " exceeds " ++ elem_text scene lattice bound ++ codes " at " ++ place_text scene unit token)
+      → Free (codes "error " ++ elem_text scene lattice elem ++ codes " exceeds " ++ elem_text scene lattice bound
+      ++ codes " at " ++ place_text scene unit token)
   head_free lattice elem bound unit token =
       let a = elem_text scene lattice elem in
       let b = elem_text scene lattice bound in
       let p = place_text scene unit token in
       then_free (codes "error " ++ a ++ codes " exceeds " ++ b ++ codes " at ") p
       (then_free (codes "error " ++ a ++ codes " exceeds " ++ b) (codes " at ")
-      (then_free (codes "error " ++ a ++ codes " exceeds ") b (then_free (codes "error " ++ a) (codes " exceeds ") (then_free (codes "error ") a refl (elem_free scene one lattice elem)) refl) (elem_free scene one lattice bound)) refl)
+      (then_free (codes "error " ++ a ++ codes " exceeds ") b (then_free (codes "error " ++ a) (codes " exceeds ")
+      (then_free (codes "error ") a refl (elem_free scene one lattice elem)) refl)
+      (elem_free scene one lattice bound)) refl)
       (place_free scene one unit token)
 
   head_line : (lattice elem bound unit token : ℕ) (rest : List ℕ) →
-      lines_of (line (codes "error " ++ elem_text scene lattice elem ++ codes " exceeds " ++ elem_text scene lattice bound ++ codes " at " ++ place_text scene unit token) ++ rest) ≡ Error ∷ lines_of rest
+      lines_of (line (codes "error " ++ elem_text scene lattice elem ++ codes " exceeds "
+      ++ elem_text scene lattice bound ++ codes " at " ++ place_text scene unit token) ++ rest) ≡ Error ∷ lines_of rest
   head_line lattice elem bound unit token rest =
       let a = elem_text scene lattice elem in
       let b = elem_text scene lattice bound in
       let p = place_text scene unit token in
-      line_first (codes "error " ++ a ++ codes " exceeds " ++ b ++ codes " at " ++ p) rest (head_free lattice elem bound unit token)
+      line_first (codes "error " ++ a ++ codes " exceeds " ++ b ++ codes " at " ++ p) rest
+      (head_free lattice elem bound unit token)
       ∙ ap (λ (l : Line). l ∷ lines_of rest) (error_kind (a ++ codes " exceeds " ++ b ++ codes " at " ++ p))
 
   path_line : (rest : List ℕ) → lines_of (line (codes "path") ++ rest) ≡ Path ∷ lines_of rest
@@ -154,7 +177,8 @@ module _ (scene : Scene) (sys : System) (one : HasNoFeeds scene) (few : length s
 
   error_first : (number : ℕ) (text : List ℕ) (is : IsError scene sys number text) (rest : List ℕ)
       → length text < 2 ^ 32 - 1 →
-      lines_of (text ++ rest) ≡ Error ∷ sub_lines 1 (map (map written) is.subs) (Path ∷ step_lines (map written is.main) (lines_of rest))
+      lines_of (text ++ rest) ≡ Error
+      ∷ sub_lines 1 (map (map written) is.subs) (Path ∷ step_lines (map written is.main) (lines_of rest))
   error_first number text is rest short =
       let span = is.bound.constraint.span in
       let e = error_line scene is.lattice is.elem is.limit span in
@@ -167,7 +191,8 @@ module _ (scene : Scene) (sys : System) (one : HasNoFeeds scene) (few : length s
       ∙ head_line is.lattice is.elem is.limit span.unit span.from (s ++ (p ++ (m ++ rest)))
       ∙ ap (λ (ls : List Line). Error ∷ ls)
       (subs_lines 1 is.subs (p ++ (m ++ rest)) known.0 (subs_few number text is short)
-      ∙ ap (sub_lines 1 (map (map written) is.subs)) (path_line (m ++ rest) ∙ ap (λ (ls : List Line). Path ∷ ls) (steps_lines is.main rest known.1)))
+      ∙ ap (sub_lines 1 (map (map written) is.subs))
+      (path_line (m ++ rest) ∙ ap (λ (ls : List Line). Path ∷ ls) (steps_lines is.main rest known.1)))
 
   one_first : (number : ℕ) (text : List ℕ) (is : IsErrorOf scene sys number text) (rest : List ℕ)
       → length text < 2 ^ 32 - 1 → lines_of (text ++ rest) ≡ errors_then (error_of is) (lines_of rest)

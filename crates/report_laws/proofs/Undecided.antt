@@ -1,14 +1,15 @@
 -- A program in which no bound is exceeded cannot fail to be accepted. What leads where need not be decided for that:
--- there
--- are finitely many variables and elements, so it cannot be that it is not decided.
-use Rattle.std.proofs.Common.{◌≡◌, ℕ, zero, suc, ◌+◌, ◌<◌, ◌≤◌, ◌⊎◌, inl, inr, ◌↔◌, max, Bool, true, false, List, [], ◌∷◌, length, slice_get, Option, Some, None, refl, subst, arith}
+-- there are finitely many variables and elements, so it cannot be that it is not decided.
+use Rattle.std.proofs.Common.{◌≡◌, ℕ, zero, suc, ◌+◌, ◌<◌, ◌≤◌, ◌⊎◌, inl, inr, ◌↔◌, max, Bool, true, false, List, length, slice_get, Option, Some, None, refl, subst, arith}
+use Rattle.std.proofs.lemmas.Option.{slice_get_within}
+use Rattle.std.proofs.lemmas.Bool.{cases_lt}
 use Rattle.lattice_core.specs.Order.{Order, size, IsLattice}
 use Rattle.flow_graph.specs.declared.constraint.Link.{Link}
 use Rattle.flow_graph.specs.declared.constraint.Link.TheVariants.{Le, Enter, Leave}
-use Rattle.flow_graph.specs.declared.constraint.Constraint.{Constraint}
 use Rattle.flow_graph.specs.System.{System, Stands, IsWellOwned, AllBelow, highest, vars_of_link}
 use Rattle.flow_graph.specs.Unfolding.{NamesElementsIn, IsAccepted, IsAcceptedIn}
 use Rattle.flow_graph.specs.Paths.{Match, Part, flow, group, Returning, Lead}
+use Rattle.flow_graph.proofs.Bounds.{below-highest}
 use Rattle.flow_laws.specs.Deciding.{PathTests, AreExact, ExceedsNone}
 use Rattle.flow_laws.specs.Rejected.{InEach}
 use Rattle.flow_laws.proofs.Links.{has_of}
@@ -20,9 +21,6 @@ use Rattle.flow_laws.proofs.Deciding.{tests_solve}
 abbrev Stays : Type 0 → Type 0
 Stays A = (A → ⊥) → ⊥
 
-either_side : (a b : ℕ) → (a < b) ⊎ (b ≤ a)
-either_side a b = grind arith
-
 one_more : (n b : ℕ) → n < suc b → (n < b) ⊎ (b ≡ n)
 one_more n b below = grind arith
 
@@ -30,7 +28,8 @@ one_more n b below = grind arith
 each_below : (Q : ℕ → Type 0) → ((n : ℕ) → Stays (Q n)) → (b : ℕ) → Stays ((n : ℕ) → n < b → Q n)
 each_below Q each zero h = h (λ n below. absurd (omega (arith, below)))
 each_below Q each (suc b) h =
-    each_below Q each b (λ less. each b (λ q. h (λ n below. elim (one_more n b below) [ inl under ↦ less n under | inr same ↦ subst Q same q ])))
+    each_below Q each b (λ less.
+    each b (λ q. h (λ n below. elim (one_more n b below) [ inl under ↦ less n under | inr same ↦ subst Q same q ])))
 
 -- a test of it
 abbrev Decided : Type 0 → Type 0
@@ -46,7 +45,10 @@ stays_decided P h = h (decided_not P (λ p. h (true, ((λ e. p), (λ p. refl))))
 all_decided : (P : ℕ → Type 0) (b : ℕ) → ((n : ℕ) → P n → n < b) → Stays ((n : ℕ) → Decided (P n))
 all_decided P b inside h =
     each_below (λ n. Decided (P n)) (λ n. stays_decided (P n)) b
-    (λ below. h (λ n. elim (either_side n b) [ inl under ↦ below n under | inr over ↦ decided_not (P n) (λ p. let low = inside n p in omega (arith, low, over)) ]))
+    (λ below. h (λ n. elim (cases_lt n b) [
+      | inl under ↦ below n under
+      | inr over ↦ decided_not (P n) (λ p. let low = inside n p in omega (arith, low, over))
+    ]))
 
 -- it cannot be that a property of pairs of numbers below bounds is not decided for all of them
 pairs_decided : (P : ℕ → ℕ → Type 0) (a b : ℕ) → ((e v : ℕ) → P e v → (e < a) × (v < b))
@@ -58,17 +60,10 @@ pairs_decided P a b inside h =
         → Stays ((v e : ℕ) → Decided (P e v))
     all_decided_each P a b inside h =
         each_below (λ v. (e : ℕ) → Decided (P e v)) (λ v. all_decided (λ e. P e v) a (λ e p. (inside e v p).0)) b
-        (λ below. h (λ v e. elim (either_side v b) [ inl under ↦ below v under e | inr over ↦ decided_not (P e v) (λ p. let low = (inside e v p).1 in omega (arith, low, over)) ]))
-
--- the variables of a constraint of a list are at most the highest of the list
-highest_above : (constraints : List Constraint) (n : ℕ) (c : Constraint) → slice_get constraints n ≡ Some c
-    → vars_of_link c.link ≤ highest constraints
-highest_above [] n c is = absurd cc
-highest_above (x ∷ constraints) zero c is =
-    let same : x ≡ c = cc in
-    let here : vars_of_link x.link ≤ max (vars_of_link x.link) (highest constraints) = omega arith in
-    subst (λ (y : Constraint). vars_of_link y.link ≤ max (vars_of_link x.link) (highest constraints)) same here
-highest_above (x ∷ constraints) (suc n) c is = let deeper = highest_above constraints n c is in omega (arith, deeper)
+        (λ below. h (λ v e. elim (cases_lt v b) [
+          | inl under ↦ below v under e
+          | inr over ↦ decided_not (P e v) (λ p. let low = (inside e v p).1 in omega (arith, low, over))
+        ]))
 
 module _ (sys : System) where
   vars : ℕ
@@ -76,13 +71,17 @@ module _ (sys : System) where
 
   all_below : AllBelow sys vars
   unfolding vars
-  all_below n link has = subst (λ (l : Link). vars_of_link l ≤ highest sys.constraints) has.link_is (highest_above sys.constraints n has.constraint has.there)
+  all_below n link has =
+      subst (λ (l : Link). vars_of_link l ≤ highest sys.constraints) has.link_is
+      (below-highest sys.constraints n has.constraint has.there)
 
   part_inside : (lattice f x v : ℕ) → Part sys lattice f x v → v < vars
   part_inside lattice f x v (flow _ _ _ n st own) =
-      let high : max (x + 1) (v + 1) ≤ vars = all_below n (Le x v) (has_of sys lattice n (Le x v) st) in omega (arith, high)
+      let high : max (x + 1) (v + 1) ≤ vars = all_below n (Le x v) (has_of sys lattice n (Le x v) st) in
+      omega (arith, high)
   part_inside lattice f x v (group _ _ a b _ s g n m st q st2 own) =
-      let high : max (b + 1) (v + 1) ≤ vars = all_below m (Leave s b v) (has_of sys lattice m (Leave s b v) st2) in omega (arith, high)
+      let high : max (b + 1) (v + 1) ≤ vars = all_below m (Leave s b v) (has_of sys lattice m (Leave s b v) st2) in
+      omega (arith, high)
 
   -- a call enters the variable
   record IsEntered (lattice u : ℕ) : Type 0 where
@@ -93,11 +92,15 @@ module _ (sys : System) where
 
   entered_inside : (lattice u : ℕ) → IsEntered lattice u → u < vars
   entered_inside lattice u e =
-      let high : max (e.from + 1) (u + 1) ≤ vars = all_below e.number (Enter e.site e.from u) (has_of sys lattice e.number (Enter e.site e.from u) e.stands) in omega (arith, high)
+      let high : max (e.from + 1) (u + 1) ≤ vars =
+      all_below e.number (Enter e.site e.from u) (has_of sys lattice e.number (Enter e.site e.from u) e.stands) in
+      omega (arith, high)
 
-  module _ (lattice : ℕ) (order : Order) (owned : IsWellOwned sys) (lat : IsLattice order) (names : NamesElementsIn sys lattice order) where
+  module _ (lattice : ℕ) (order : Order) (owned : IsWellOwned sys) (lat : IsLattice order)
+      (names : NamesElementsIn sys lattice order) where
     lead_within : (e v : ℕ) → Lead sys lattice e v → (e < size order) × (v < vars)
-    lead_within e v lead = (lead_element sys lattice order names e v lead, leads_inside sys lattice e v vars all_below lead)
+    lead_within e v lead =
+        (lead_element sys lattice order names e v lead, leads_inside sys lattice e v vars all_below lead)
 
     abbrev Entering : ℕ → ℕ → Type 0
     Entering u v = IsEntered lattice u × Match sys lattice u v
@@ -125,14 +128,11 @@ module _ (sys : System) where
         pairs_decided (λ e v. Returning sys lattice e v) (size order) vars (λ e v p. lead_within e v (inl p))
         (λ returned. pairs_decided (λ e v. Lead sys lattice e v) (size order) vars lead_within
         (λ leads. pairs_decided Entering vars vars match_within
-        (λ matched. let exact = exact_of returned leads matched in h ((tests_solve sys lattice order exact.0 owned lat names exact.1).accepted none))))
+        (λ matched. let exact = exact_of returned leads matched in
+        h ((tests_solve sys lattice order exact.0 owned lat names exact.1).accepted none))))
 
-  within_of : {A : Type 0} → (xs : List A) (k : ℕ) (x : A) → slice_get xs k ≡ Some x → k < length xs
-  within_of [] k x is = absurd cc
-  within_of (y ∷ ys) zero x is = omega arith
-  within_of (y ∷ ys) (suc k) x is = let deeper = within_of ys k x is in omega (arith, deeper)
-
-  module _ (orders : List Order) (owned : IsWellOwned sys) (lats : InEach orders (λ lattice order. IsLattice order)) (names : InEach orders (λ lattice order. NamesElementsIn sys lattice order)) where
+  module _ (orders : List Order) (owned : IsWellOwned sys) (lats : InEach orders (λ lattice order. IsLattice order))
+      (names : InEach orders (λ lattice order. NamesElementsIn sys lattice order)) where
     abbrev AcceptedAt : ℕ → Type 0
     AcceptedAt lattice = (order : Order) → slice_get orders lattice ≡ Some order → IsAcceptedIn sys lattice order
 
@@ -141,10 +141,11 @@ module _ (sys : System) where
     accepted_at none lattice None is h = h (λ order there. absurd cc)
     accepted_at none lattice (Some found) is h =
         lattice_accepted lattice found owned (lats lattice found is) (names lattice found is) (none lattice found is)
-        (λ accepted. h (λ order there. let same : found ≡ order = cc in subst (λ (o : Order). IsAcceptedIn sys lattice o) same accepted))
+        (λ accepted. h (λ order there. let same : found ≡ order = cc in
+        subst (λ (o : Order). IsAcceptedIn sys lattice o) same accepted))
 
     pub rejected_exceeds : (IsAccepted sys orders → ⊥) → InEach orders (λ lattice order. ExceedsNone sys lattice order)
         → ⊥
     rejected_exceeds rejected none =
         each_below AcceptedAt (λ lattice. accepted_at none lattice (slice_get orders lattice) refl) (length orders)
-        (λ all. rejected (λ lattice order there. all lattice (within_of orders lattice order there) order there))
+        (λ all. rejected (λ lattice order there. all lattice (slice_get_within orders lattice order there) order there))

@@ -1,6 +1,7 @@
 -- The text of a rejected report reads back as its errors.
 use Rattle.std.proofs.Common.{◌≡◌, ℕ, ◌+◌, ◌-◌, ◌^◌, ◌<◌, ◌≤◌, ◌⊎◌, inl, inr, List, [], ◌∷◌, ◌++◌, length, map, slice_get, zero, suc, Some, None, All, refl, sym, ◌∙◌, ap, subst, arith, codes, append-nil, length-append}
 use Rattle.std.proofs.lemmas.List.Elements.{All-nil, All-cons}
+use Rattle.std.proofs.lemmas.Option.{slice_get_within}
 use Rattle.lattice_core.specs.Order.{Order, IsLattice}
 use Rattle.lattice_core.specs.View.{LatticeView, orders_of}
 use Rattle.flow_graph.specs.declared.proof.PathStep.{PathStep}
@@ -19,7 +20,7 @@ use Rattle.annotate.specs.Texts.{Scene, line}
 use Rattle.annotate.specs.Reports.{IsErrorOf, NotExceeded, Exceeded, Errors, NoConstraint, NextError, IsOver, IsRejectedReport}
 use Rattle.report_laws.specs.Scenes.{HasNoFeeds}
 use Rattle.report_laws.specs.Laws.{written, written_error, written_proof, error_of, errors_of, ReadsBack, RejectedReadsBack}
-use Rattle.report_laws.proofs.Known.{AllKnown, SubsKnown, within_of}
+use Rattle.report_laws.proofs.Known.{AllKnown, SubsKnown}
 use Rattle.report_laws.proofs.Unlined.{holds_without_lines}
 use Rattle.report_laws.proofs.Undecided.{rejected_exceeds}
 use Rattle.report_laws.proofs.ReadBack.{errors_read_back}
@@ -29,7 +30,8 @@ use Rattle.report_laws.proofs.Texts.{then_nothing, rejected_line, error_known, e
 steps_named : (sys : System) (steps : List PathStep) → AllKnown sys steps
     → AreNamed (length sys.constraints) (map written steps)
 steps_named sys [] known = tt
-steps_named sys (TakeStep edge l ∷ steps) known = (within_of sys.constraints edge known.0.0 known.0.1, steps_named sys steps known.1)
+steps_named sys (TakeStep edge l ∷ steps) known =
+    (slice_get_within sys.constraints edge known.0.0 known.0.1, steps_named sys steps known.1)
 steps_named sys (SubStep number l ∷ steps) known = steps_named sys steps known.1
 
 subs_named : (sys : System) (subs : List (List PathStep)) → SubsKnown sys subs
@@ -69,7 +71,8 @@ all_hold sys orders (p ∷ proofs) (e ∷ errors) same holds =
     let so = holds.0 in
     let head : written_proof p ≡ e = cc in
     let tail : map written_proof proofs ≡ errors = cc in
-    let here : StepsHold sys orders p = holds_without_lines sys orders (record { subs = so.subs; main = so.main; end = so.end }) p (so.is ∙ sym head) so.holds in
+    let here : StepsHold sys orders p = holds_without_lines sys orders
+    (record { subs = so.subs; main = so.main; end = so.end }) p (so.is ∙ sym head) so.holds in
     All-cons (StepsHold sys orders) p proofs here (all_hold sys orders proofs errors tail holds.1)
 
 module _ (scene : Scene) (sys : System) (one : HasNoFeeds scene) (few : length sys.constraints ≤ most_constraints) where
@@ -77,25 +80,29 @@ module _ (scene : Scene) (sys : System) (one : HasNoFeeds scene) (few : length s
       → ErrorsAreNamed (length sys.constraints) (error_of is)
   named_one number text (NotExceeded kept) short = tt
   named_one number text (Exceeded error over is) short =
-      let known = error_known scene sys one few number error is short in (subs_named sys is.subs known.0, steps_named sys is.main known.1, tt)
+      let known = error_known scene sys one few number error is short in
+      (subs_named sys is.subs known.0, steps_named sys is.main known.1, tt)
 
   named : (number : ℕ) (text : List ℕ) (listed : Errors scene sys number text) → length text < 2 ^ 32 - 1
       → ErrorsAreNamed (length sys.constraints) (errors_of listed)
   named number text NoConstraint short = tt
   named _ _ (NextError number text error before is) short =
       let long = length-append text error in
-      both_named (length sys.constraints) (errors_of before) (error_of is) (named number text before (omega (arith, short, long))) (named_one number error is (omega (arith, short, long)))
+      both_named (length sys.constraints) (errors_of before) (error_of is)
+      (named number text before (omega (arith, short, long))) (named_one number error is (omega (arith, short, long)))
 
   hold_one : (number : ℕ) (text : List ℕ) (is : IsErrorOf scene sys number text)
       → AllHoldSo sys (orders_of scene.lattices) (error_of is)
   hold_one number text (NotExceeded kept) = tt
-  hold_one number text (Exceeded error over is) = (record { subs = is.subs; main = is.main; end = is.end; is = refl; holds = is.holds }, tt)
+  hold_one number text (Exceeded error over is) =
+      (record { subs = is.subs; main = is.main; end = is.end; is = refl; holds = is.holds }, tt)
 
   hold : (number : ℕ) (text : List ℕ) (listed : Errors scene sys number text)
       → AllHoldSo sys (orders_of scene.lattices) (errors_of listed)
   hold number text NoConstraint = tt
   hold _ _ (NextError number text error before is) =
-      both_hold sys (orders_of scene.lattices) (errors_of before) (error_of is) (hold number text before) (hold_one number error is)
+      both_hold sys (orders_of scene.lattices) (errors_of before) (error_of is) (hold number text before)
+      (hold_one number error is)
 
   -- where there is no error, no bound is exceeded
   no_front : (one two : List WrittenError) → one ++ two ≡ [] → (one ≡ []) × (two ≡ [])
@@ -122,11 +129,13 @@ module _ (scene : Scene) (sys : System) (one : HasNoFeeds scene) (few : length s
 
   some_error : (text : List ℕ) (report : IsRejectedReport scene sys text) → IsWellOwned sys
       → InEach (orders_of scene.lattices) (λ lattice order. IsLattice order) →
-      InEach (orders_of scene.lattices) (λ lattice order. NamesElementsIn sys lattice order) → errors_of report.listed ≡ [] → ⊥
+      InEach (orders_of scene.lattices) (λ lattice order. NamesElementsIn sys lattice order)
+      → errors_of report.listed ≡ [] → ⊥
   some_error text report owned lats names none =
       rejected_exceeds sys (orders_of scene.lattices) owned lats names report.rejected
       (λ lattice order there n exceeded.
-      kept (length sys.constraints) report.errors report.listed none n (within_of sys.constraints n exceeded.bound.constraint exceeded.bound.there)
+      kept (length sys.constraints) report.errors report.listed none n
+      (slice_get_within sys.constraints n exceeded.bound.constraint exceeded.bound.there)
       (record { lattice = lattice; order = order; there = there; exceeded = exceeded }))
 
   report_of : (lines : List Line) (errors : List WrittenError) → lines ≡ Rejected ∷ error_lines errors
@@ -141,20 +150,26 @@ module _ (scene : Scene) (sys : System) (one : HasNoFeeds scene) (few : length s
       ap lines_of report.spelled
       ∙ rejected_line scene sys one few report.errors
       ∙ ap (λ (ls : List Line). Rejected ∷ ls)
-      (ap lines_of (sym (append-nil report.errors)) ∙ errors_first scene sys one few (length sys.constraints) report.errors report.listed [] short ∙ then_nothing errors)
+      (ap lines_of (sym (append-nil report.errors)) ∙ errors_first scene sys one few
+      (length sys.constraints) report.errors report.listed [] short ∙ then_nothing errors)
 
   reads_back : (text : List ℕ) → IsWellOwned sys
       → InEach (orders_of scene.lattices) (λ lattice order. IsLattice order) →
-      InEach (orders_of scene.lattices) (λ lattice order. NamesElementsIn sys lattice order) → length text < 2 ^ 32 - 1 → (report : IsRejectedReport scene sys text) →
+      InEach (orders_of scene.lattices) (λ lattice order. NamesElementsIn sys lattice order) → length text < 2 ^ 32 - 1
+      → (report : IsRejectedReport scene sys text) →
       ReadsBack sys (orders_of scene.lattices) text (errors_of report.listed)
   reads_back text owned lats names short report =
       let errors = errors_of report.listed in
       let whole : length text ≡ length (line (codes "rejected") ++ report.errors) = ap length report.spelled in
-      let shorter : length report.errors < 2 ^ 32 - 1 = omega (arith, short, whole, length-append (line (codes "rejected")) report.errors) in
+      let shorter : length report.errors < 2 ^ 32 - 1 =
+      omega (arith, short, whole, length-append (line (codes "rejected")) report.errors) in
       let lines = text_lines text report shorter in
-      let reads = report_of (lines_of text) errors lines (named (length sys.constraints) report.errors report.listed shorter) (some_error text report owned lats names) in
-      let proofs : map written_proof (proofs_in (lines_of text)) ≡ errors = ap (λ (ls : List Line). map written_proof (proofs_in ls)) lines ∙ errors_read_back errors in
-      let holds = all_hold sys (orders_of scene.lattices) (proofs_in (lines_of text)) errors proofs (hold (length sys.constraints) report.errors report.listed) in
+      let reads = report_of (lines_of text) errors lines
+      (named (length sys.constraints) report.errors report.listed shorter) (some_error text report owned lats names) in
+      let proofs : map written_proof (proofs_in (lines_of text)) ≡ errors =
+      ap (λ (ls : List Line). map written_proof (proofs_in ls)) lines ∙ errors_read_back errors in
+      let holds = all_hold sys (orders_of scene.lattices) (proofs_in (lines_of text)) errors proofs
+      (hold (length sys.constraints) report.errors report.listed) in
       record { reads = reads; proofs = proofs; hold = holds; comes = (reads, holds) }
 
 -- what is so of each lattice is so of each order
@@ -162,11 +177,13 @@ in_each : (P : ℕ → Order → Type 0) (lattices : List LatticeView)
     → ((n : ℕ) (view : LatticeView) → slice_get lattices n ≡ Some view → P n view.order) →
     InEach (orders_of lattices) P
 in_each P [] all n order there = absurd cc
-in_each P (view ∷ lattices) all zero order there = let same : view.order ≡ order = cc in subst (λ (o : Order). P zero o) same (all zero view refl)
+in_each P (view ∷ lattices) all zero order there =
+    let same : view.order ≡ order = cc in
+    subst (λ (o : Order). P zero o) same (all zero view refl)
 in_each P (view ∷ lattices) all (suc n) order there = in_each (λ k. P (suc k)) lattices (λ k. all (suc k)) n order there
 
 -- the text of a rejected report reads back as its errors, where no line feed is in what its lines name
 pub rejected_reads_back : RejectedReadsBack
 rejected_reads_back scene sys text one lats names owned few short report =
-    reads_back scene sys one few text owned (in_each (λ lattice order. IsLattice order) scene.lattices lats) (in_each (λ lattice order. NamesElementsIn sys lattice order) scene.lattices names)
-    short report
+    reads_back scene sys one few text owned (in_each (λ lattice order. IsLattice order) scene.lattices lats)
+    (in_each (λ lattice order. NamesElementsIn sys lattice order) scene.lattices names) short report

@@ -47,11 +47,12 @@ ErrorsReadBack = (errors : List WrittenError) → map written_proof (proofs_in (
 
 -- Whether a path proof holds does not depend on its line numbers.
 abbrev pub HoldsWithoutLines : Type 0
-HoldsWithoutLines = (sys : System) (orders : List Order) (one other : Steps) → written_proof one ≡ written_proof other → StepsHold sys orders one → StepsHold sys orders other
+HoldsWithoutLines =
+    (sys : System) (orders : List Order) (one other : Steps) → written_proof one ≡ written_proof other
+    → StepsHold sys orders one → StepsHold sys orders other
 
 -- A text reads as a report of these errors, line numbers aside. Each of the proofs that are read holds, so that the
--- text
--- comes to that.
+-- text comes to that.
 pub record ReadsBack (sys : System) (orders : List Order) (text : List ℕ) (errors : List WrittenError) : Type 0 where
   pub reads : IsReport (length sys.constraints) (lines_of text)
   pub proofs : map written_proof (proofs_in (lines_of text)) ≡ errors
@@ -59,9 +60,11 @@ pub record ReadsBack (sys : System) (orders : List Order) (text : List ℕ) (err
   pub comes : ComesTo sys orders text Hold
 
 -- The text of a rejected report of a well owned system within its limits, whose constants and bounds name elements of
--- its
--- lattices, reads back as its errors, where no line feed is in what its lines name and it is short enough to be read.
+-- its lattices, reads back as its errors, where no line feed is in what its lines name and it is short enough to be
+-- read.
 abbrev pub RejectedReadsBack : Type 0
-RejectedReadsBack = (scene : Scene) (sys : System) (text : List ℕ) → HasNoFeeds scene → AreLattices scene.lattices → AllNamed scene.lattices sys → IsWellOwned sys →
+RejectedReadsBack =
+    (scene : Scene) (sys : System) (text : List ℕ) → HasNoFeeds scene → AreLattices scene.lattices
+    → AllNamed scene.lattices sys → IsWellOwned sys →
     length sys.constraints ≤ most_constraints → length text < 2 ^ 32 - 1 → (report : IsRejectedReport scene sys text) →
     ReadsBack sys (orders_of scene.lattices) text (errors_of report.listed)

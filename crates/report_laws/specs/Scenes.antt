@@ -11,8 +11,7 @@ abbrev pub HasNoFeed : List ℕ → Type 0
 HasNoFeed text = All (λ b. b ≢ 10) text
 
 -- No line feed is in the name of a file, which is the unit's own or that of a linemarker, in a token, or in the name of
--- an
--- element.
+-- an element.
 pub record HasNoFeeds (scene : Scene) : Type 0 where
   pub files : (k : ℕ) (unit : UnitText) (token : ℕ) → slice_get scene.units k ≡ Some unit
       → HasNoFeed (file_text unit.file unit.lexed.bytes (token_spot unit.lexed token))
@@ -23,4 +22,5 @@ pub record HasNoFeeds (scene : Scene) : Type 0 where
 
 -- No token of a unit that its bytes spell has a line feed in it.
 abbrev pub TokensHaveNoFeed : Type 0
-TokensHaveNoFeed = (words : Meanings) (lexed : Lexed) → IsSpelled words lexed → (token : ℕ) → HasNoFeed (text_of lexed token)
+TokensHaveNoFeed =
+    (words : Meanings) (lexed : Lexed) → IsSpelled words lexed → (token : ℕ) → HasNoFeed (text_of lexed token)

@@ -1,5 +1,8 @@
+pub mod Associations
+pub mod Blocks
 pub mod Goes
 pub mod Idle
+pub mod Lists
 pub mod Parts
 pub mod Rules
 pub mod Stacks

@@ -57,7 +57,8 @@ module _ (whole_are : WholeAreMixes) (goes : MixesGoOn) (all : List Lexeme) (num
 
   rows_named : (xs : List Item) (s : HeldScopes) → row_scopes (item_form all) xs s ≡ items_scopes xs s
   rows_named [] s = refl
-  rows_named (x ∷ xs) s = behind_same (item_scopes x s) (row_scopes (item_form all) xs) (items_scopes xs) (rows_named xs)
+  rows_named (x ∷ xs) s =
+      behind_same (item_scopes x s) (row_scopes (item_form all) xs) (items_scopes xs) (rows_named xs)
 
   rows_fit : (xs : List Item) → All (IsItem all) xs → AllFit (item_form all) xs
   rows_fit [] h = tt
@@ -73,7 +74,8 @@ module _ (whole_are : WholeAreMixes) (goes : MixesGoOn) (all : List Lexeme) (num
   words_no_end : (exts : List ℕ) (ws : SpecWords) (s t : HeldScopes) (k : List Lexeme) → IsMix ws → AreSpecWords all ws
       → spec_words_scopes ws s ≡ Some t
       → not (is_end (kind_at (extensions_text exts (spec_words_text all ws k)))) ≡ true
-  words_no_end [] ws s t k mix fit named = not_false (specs_no_end s (kind_at (spec_words_text all ws k)) (firsts.words_begin ws s t k mix fit named))
+  words_no_end [] ws s t k mix fit named =
+      not_false (specs_no_end s (kind_at (spec_words_text all ws k)) (firsts.words_begin ws s t k mix fit named))
   words_no_end (e ∷ exts) ws s t k mix fit named = refl
 
   item_starts : (x : Item) (s t : HeldScopes) (k : List Lexeme) → IsItem all x → item_scopes x s ≡ Some t
@@ -98,10 +100,15 @@ module _ (whole_are : WholeAreMixes) (goes : MixesGoOn) (all : List Lexeme) (num
       let end : List Lexeme = record { kind = kinds.End; at = w.tokens.last } ∷ [] in
       let spelled : all ≡ row_text (item_form all) items end = w.tokens.spelled ∙ sym (rows_are items end) in
       let high = rows_high items in
-      bind_is _ (ap (repeated (λ kind. not (is_end kind)) (item_with (knot room) (room - 1)) (file_scope dialect)) spelled ∙
-      repeated_complete (λ kind. not (is_end kind)) (item_with (knot room) (room - 1)) (item_form all) always (room - 1) (item_shrinks all tokens (suc room) (knot room) (knot_laws room) (room - 1))
-      (item_complete all numbered tokens firsts (suc room) (knot room) (knot_laws room) whole_are goes (block_body_read all numbered tokens goes firsts (suc room) (knot room) (knot_laws room) whole_are) (room - 1) (omega arith)) item_starts (λ x kind e. refl) items (file_scope dialect) w.scopes end
-      (rows_fit items w.parts) (rows_named items (file_scope dialect) ∙ w.named) (omega (arith, high, low)) refl (λ x. refl))
+      bind_is _
+      (ap (repeated (λ kind. not (is_end kind)) (item_with (knot room) (room - 1)) (file_scope dialect)) spelled ∙
+      repeated_complete (λ kind. not (is_end kind)) (item_with (knot room) (room - 1)) (item_form all) always (room - 1)
+      (item_shrinks all tokens (suc room) (knot room) (knot_laws room) (room - 1))
+      (item_complete all numbered tokens firsts (suc room) (knot room) (knot_laws room) whole_are goes
+      (block_body_read all numbered tokens goes firsts (suc room) (knot room) (knot_laws room) whole_are) (room - 1)
+      (omega arith)) item_starts (λ x kind e. refl) items (file_scope dialect) w.scopes end
+      (rows_fit items w.parts) (rows_named items (file_scope dialect) ∙ w.named)
+      (omega (arith, high, low)) refl (λ x. refl))
       (bind_is _ refl refl)
 
   rows_formed : (xs : List Item) → AllFit (item_form all) xs → All (IsItem all) xs
@@ -114,7 +121,9 @@ module _ (whole_are : WholeAreMixes) (goes : MixesGoOn) (all : List Lexeme) (num
   unit_sound dialect room one x e =
       let a = bind_ok e in
       let b = bind_ok a.2 in
-      let i = repeated_sound (λ kind. not (is_end kind)) (item_with (knot room) (room - 1)) all (item_form all) (room - 1) (item_sound all numbered tokens (suc room) (knot room) (knot_laws room) goes (room - 1)) (file_scope dialect) all a.0 (0, refl) a.1 in
+      let i = repeated_sound (λ kind. not (is_end kind)) (item_with (knot room) (room - 1)) all (item_form all)
+      (room - 1) (item_sound all numbered tokens (suc room) (knot room) (knot_laws room) goes (room - 1))
+      (file_scope dialect) all a.0 (0, refl) a.1 in
       let q = took_token all is_end kinds.End end_kind a.0.scopes a.0.rest b.0 i.left b.1 in
       at_last a.0 b.0 b.0.rest refl i q b.2
     where
@@ -124,7 +133,11 @@ module _ (whole_are : WholeAreMixes) (goes : MixesGoOn) (all : List Lexeme) (num
           → IsWellFormedAtAnyHeight dialect all x.tree
       at_last a b [] is i q e =
           subst (λ (x : Found (List Item)). IsWellFormedAtAnyHeight dialect all x.tree) (ok_is e) (record {
-            tokens = record { last = b.tree; spelled = i.spelled ∙ rows_are a.tree a.rest ∙ ap (items_text all a.tree) (q.spelled ∙ ap (λ (k : List Lexeme). record { kind = kinds.End; at = b.tree } ∷ k) is) };
+            tokens = record {
+              last = b.tree;
+              spelled = i.spelled ∙ rows_are a.tree a.rest ∙ ap (items_text all a.tree)
+                  (q.spelled ∙ ap (λ (k : List Lexeme). record { kind = kinds.End; at = b.tree } ∷ k) is);
+            };
             parts = rows_formed a.tree i.fits;
             scopes = a.scopes;
             named = sym (rows_named a.tree (file_scope dialect)) ∙ i.named;
@@ -132,7 +145,9 @@ module _ (whole_are : WholeAreMixes) (goes : MixesGoOn) (all : List Lexeme) (num
       at_last a b (t ∷ ts) is i q e = absurd cc
 
 pub any_unit_is_well_formed : WholeAreMixes → MixesGoOn → AnyUnitIsWellFormed
-any_unit_is_well_formed whole_are goes dialect all numbered room x one e = unit_sound whole_are goes all numbered dialect room one x e
+any_unit_is_well_formed whole_are goes dialect all numbered room x one e =
+    unit_sound whole_are goes all numbered dialect room one x e
 
 pub any_height_is_read : WholeAreMixes → MixesGoOn → AnyHeightIsRead
-any_height_is_read whole_are goes dialect all numbered room items one w low = unit_read whole_are goes all numbered dialect room one items w low
+any_height_is_read whole_are goes dialect all numbered room items one w low =
+    unit_read whole_are goes all numbered dialect room one items w low

@@ -1,13 +1,12 @@
 -- With more room a reader answers the same, and refuses the same but for the height: one lemma for each way to put
--- readers
--- together.
+-- readers together.
 use Rattle.std.proofs.Common.{◌≡◌, ℕ, zero, suc, ◌≤◌, Bool, true, false, if◌then◌else◌, List, [], ◌∷◌, ◌++◌, length, inl, inr, Option, Some, None, Result, Ok, Err, refl, sym, ◌∙◌, subst, arith}
 use Rattle.std.specs.Prelude.{nat_le}
 use Rattle.std.proofs.lemmas.Bool.{leb-true, le-leb}
 use Rattle.c_words.specs.declared.kinds.TokenKind.{TokenKind}
 use Rattle.c_tree.specs.declared.lexeme.Lexeme.{Lexeme}
 use Rattle.c_units.specs.HeldScopes.{HeldScopes}
-use Rattle.c_reading.specs.declared.kinds.Fault.TheVariants.{TooDeep}
+use Rattle.c_reading.specs.declared.kinds.FaultKind.TheVariants.{TooDeep}
 use Rattle.c_reading.specs.Reading.{Refusal, Found, Read, Reader, Turn, and_then, ends, fits, refuses, kind_at, turns, run, repeated, repeated_turn, listed, comma_turn, comma_turn_by, with_next, Next, CommaList, is_comma}
 use Rattle.c_reading.proofs.Binding.{done, bind_ok, fits_ok}
 use Rattle.c_reading.proofs.Loops.{run_is}
@@ -63,7 +62,8 @@ first_fits {T} begins least room read shrinks s ts x begun e = (fits_ok least ro
     item_shrinks : Shrinks item
     item_shrinks s ts x e = shrinks s ts x (fits_ok least room ts e).1
 
-    on : and_then (and_then (item s ts) (λ x. ends ([] ++ x.tree ∷ []) x.scopes x.rest)) (λ x. run (repeated_turn begins item) x.tree x.scopes x.rest) ≡ done x
+    on : and_then (and_then (item s ts) (λ x. ends ([] ++ x.tree ∷ []) x.scopes x.rest))
+        (λ x. run (repeated_turn begins item) x.tree x.scopes x.rest) ≡ done x
     on = rw begun at (sym (run_is (repeated_turn begins item) (row_turn_shrinks begins item item_shrinks) [] s ts) ∙ e)
 
 -- turns of two loops that go on alike
@@ -78,13 +78,17 @@ more_turns : {S : Type 0} (turn other : Turn S)
     More (turns turn n a s ts) (turns other n a s ts)
 unfolding turns
 more_turns turn other m zero a s ts = refl
-more_turns {S} turn other m (suc n) a s ts = by_turn (λ a s ts. more_turns turn other m n a s ts) (turn a s ts) (other a s ts) (m a s ts)
+more_turns {S} turn other m (suc n) a s ts =
+    by_turn (λ a s ts. more_turns turn other m n a s ts) (turn a s ts) (other a s ts) (m a s ts)
   where
     by_turn : ((a : S) (s : HeldScopes) (ts : List Lexeme) → More (turns turn n a s ts) (turns other n a s ts))
         → (r q : Option (Read S)) → MoreTurn r q →
-        More (elim r [ None ↦ ends a s ts | Some read ↦ and_then read (λ x. turns turn n x.tree x.scopes x.rest) ]) (elim q [ None ↦ ends a s ts | Some read ↦ and_then read (λ x. turns other n x.tree x.scopes x.rest) ])
+        More (elim r [ None ↦ ends a s ts | Some read ↦ and_then read (λ x. turns turn n x.tree x.scopes x.rest) ])
+        (elim q [ None ↦ ends a s ts | Some read ↦ and_then read (λ x. turns other n x.tree x.scopes x.rest) ])
     by_turn again None None h = refl
-    by_turn again (Some r) (Some q) h = more_bind r q (λ x. turns turn n x.tree x.scopes x.rest) (λ x. turns other n x.tree x.scopes x.rest) h (λ x. again x.tree x.scopes x.rest)
+    by_turn again (Some r) (Some q) h =
+        more_bind r q (λ x. turns turn n x.tree x.scopes x.rest) (λ x. turns other n x.tree x.scopes x.rest) h
+        (λ x. again x.tree x.scopes x.rest)
     by_turn again None (Some q) h = absurd h
     by_turn again (Some r) None h = absurd h
 
@@ -110,12 +114,15 @@ pub more_repeated : {T : Type 0} (begins : TokenKind → Bool) (read other : Rea
     More (repeated begins read s ts) (repeated begins other s ts)
 unfolding repeated
 more_repeated begins read other m s ts =
-    more_run (repeated_turn begins read) (repeated_turn begins other) (λ xs s ts. more_guarded (begins (kind_at ts)) _ _ (more_bind (read s ts) (other s ts) (λ x. ends (xs ++ x.tree ∷ []) x.scopes x.rest) (λ x. ends (xs ++ x.tree ∷ []) x.scopes x.rest) (m s ts) (λ x. refl))) [] s ts
+    more_run (repeated_turn begins read) (repeated_turn begins other) (λ xs s ts. more_guarded (begins (kind_at ts)) _ _
+    (more_bind (read s ts) (other s ts) (λ x. ends (xs ++ x.tree ∷ []) x.scopes x.rest)
+    (λ x. ends (xs ++ x.tree ∷ []) x.scopes x.rest) (m s ts) (λ x. refl))) [] s ts
 
 -- lists with commas
 pub more_listed : {T E : Type 0} (first other : Reader T) (next others : ℕ → Reader (Next T E))
     → (s : HeldScopes) (ts : List Lexeme) → More (first s ts) (other s ts) →
-    ((x : Found T) → first s ts ≡ Ok x → (comma : ℕ) (s : HeldScopes) (ts : List Lexeme) → More (next comma s ts) (others comma s ts))
+    ((x : Found T) → first s ts ≡ Ok x → (comma : ℕ) (s : HeldScopes) (ts : List Lexeme)
+    → More (next comma s ts) (others comma s ts))
     → More (listed first next s ts) (listed other others s ts)
 unfolding listed and_then
 more_listed {T} {E} first other next others s ts m ms = by_first (first s ts) (other s ts) m refl
@@ -130,13 +137,19 @@ more_listed {T} {E} first other next others s ts m ms = by_first (first s ts) (o
         by_ending (Some e) ts = tt
         by_ending None [] = tt
         by_ending None (t ∷ ts) =
-            more_guarded (is_comma t.kind) _ _ (more_bind (next t.at s ts) (others t.at s ts) (λ x. ends (with_next a.items x.tree) x.scopes x.rest) (λ x. ends (with_next a.items x.tree) x.scopes x.rest) (ms t.at s ts) (λ x. refl))
+            more_guarded (is_comma t.kind) _ _
+            (more_bind (next t.at s ts) (others t.at s ts) (λ x. ends (with_next a.items x.tree) x.scopes x.rest)
+            (λ x. ends (with_next a.items x.tree) x.scopes x.rest) (ms t.at s ts) (λ x. refl))
 
     by_first : (r q : Read T) → More r q → first s ts ≡ r →
-        More (and_then r (λ x. run (comma_turn next) (record { items = x.tree ∷ []; ending = None }) x.scopes x.rest)) (and_then q (λ x. run (comma_turn others) (record { items = x.tree ∷ []; ending = None }) x.scopes x.rest))
+        More (and_then r (λ x. run (comma_turn next) (record { items = x.tree ∷ []; ending = None }) x.scopes x.rest))
+        (and_then q (λ x. run (comma_turn others) (record { items = x.tree ∷ []; ending = None }) x.scopes x.rest))
     by_first (Ok x) q h is =
-        subst (λ (q : Read T). More (run (comma_turn next) (record { items = x.tree ∷ []; ending = None }) x.scopes x.rest) (and_then q (λ x. run (comma_turn others) (record { items = x.tree ∷ []; ending = None }) x.scopes x.rest))) (sym h)
-        (more_run (comma_turn next) (comma_turn others) (turn_more (ms x is)) (record { items = x.tree ∷ []; ending = None }) x.scopes x.rest)
+        subst (λ (q : Read T). More
+        (run (comma_turn next) (record { items = x.tree ∷ []; ending = None }) x.scopes x.rest) (and_then q
+        (λ x. run (comma_turn others) (record { items = x.tree ∷ []; ending = None }) x.scopes x.rest))) (sym h)
+        (more_run (comma_turn next) (comma_turn others) (turn_more (ms x is))
+        (record { items = x.tree ∷ []; ending = None }) x.scopes x.rest)
     by_first (Err e) q (inl deep) is = inl deep
     by_first (Err e) q (inr same) is = inr (rw same refl)
 

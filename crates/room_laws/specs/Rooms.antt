@@ -1,13 +1,12 @@
 -- What a reader does with more room: it answers the same, and refuses the same token with the same fault unless that is
--- the
--- height.
+-- the height.
 use Rattle.std.specs.Prelude.{◌≡◌, ℕ, ◌<◌, ◌≤◌, ◌-◌, ◌⊎◌, Bool, true, false, suc, List, [], Option, Result, Ok, Err}
 use Rattle.c_tree.specs.declared.lexeme.Lexeme.{Lexeme}
 use Rattle.c_tree.specs.Tree.{SpecWords}
 use Rattle.c_tree.specs.Unit.{Item, unit_height}
 use Rattle.typedef_scope.specs.declared.kind.Kind.{Kind}
 use Rattle.c_units.specs.HeldScopes.{HeldScopes, file_scope}
-use Rattle.c_reading.specs.declared.kinds.Fault.TheVariants.{TooDeep}
+use Rattle.c_reading.specs.declared.kinds.FaultKind.TheVariants.{TooDeep}
 use Rattle.c_reading.specs.declared.kinds.Reach.{Reach}
 use Rattle.c_reading.specs.declared.kinds.Role.{Role}
 use Rattle.c_reading.specs.declared.kinds.Mode.{Mode}
@@ -48,19 +47,26 @@ pub record InnerMore (n : ℕ) (inner other : Inner) : Type 0 where
 
 -- a unit of at most this height; that of 500 is the reader of units
 abbrev pub unit_of : ℕ → Bool → List Lexeme → Read (List Item)
-unit_of room dialect all = items_with (knot room) (room - 1) (file_scope dialect) all >>= λ items. token_at is_end items.scopes items.rest >>= λ last. alone dialect items.tree last.rest
+unit_of room dialect all =
+    items_with (knot room) (room - 1) (file_scope dialect) all >>= λ items. token_at is_end items.scopes items.rest
+    >>= λ last. alone dialect items.tree last.rest
 
 -- with more room a unit is read alike
 abbrev pub MoreRoomIsMore : Type 0
-MoreRoomIsMore = (room wide : ℕ) → 1 ≤ room → room ≤ wide → (dialect : Bool) (all : List Lexeme) → More (unit_of room dialect all) (unit_of wide dialect all)
+MoreRoomIsMore =
+    (room wide : ℕ) → 1 ≤ room → room ≤ wide → (dialect : Bool) (all : List Lexeme)
+    → More (unit_of room dialect all) (unit_of wide dialect all)
 
 -- a unit that is well formed but for its height is read with room for it
 abbrev pub AnyHeightIsRead : Type 0
 AnyHeightIsRead =
-    (dialect : Bool) (all : List Lexeme) → IsNumbered all → (room : ℕ) (items : List Item) → 1 ≤ room → IsWellFormedAtAnyHeight dialect all items
-    → unit_height items ≤ room → unit_of room dialect all ≡ Ok (record { tree = items; scopes = file_scope dialect; rest = [] })
+    (dialect : Bool) (all : List Lexeme) → IsNumbered all → (room : ℕ) (items : List Item) → 1 ≤ room
+    → IsWellFormedAtAnyHeight dialect all items
+    → unit_height items ≤ room
+    → unit_of room dialect all ≡ Ok (record { tree = items; scopes = file_scope dialect; rest = [] })
 
 -- what is read with any room is well formed but for its height
 abbrev pub AnyUnitIsWellFormed : Type 0
 AnyUnitIsWellFormed =
-    (dialect : Bool) (all : List Lexeme) → IsNumbered all → (room : ℕ) (x : Found (List Item)) → 1 ≤ room → unit_of room dialect all ≡ Ok x → IsWellFormedAtAnyHeight dialect all x.tree
+    (dialect : Bool) (all : List Lexeme) → IsNumbered all → (room : ℕ) (x : Found (List Item)) → 1 ≤ room
+    → unit_of room dialect all ≡ Ok x → IsWellFormedAtAnyHeight dialect all x.tree

@@ -11,7 +11,8 @@ use Rattle.row_adding.specs.Adding.{Adds, Halts}
 use Rattle.row_adding.proofs.Lists.{stop_back}
 
 -- an adding that stops in the second row
-pub halts_behind : {T : Type 0} (r : Result T GraphFault) (k : Known) (old middle new : System) (xs ys : World → List Constraint)
+pub halts_behind : {T : Type 0} (r : Result T GraphFault) (k : Known) (old middle new : System)
+    (xs ys : World → List Constraint)
     → Adds k old middle xs
     → IfErr r (λ fault. Halts k middle new fault ys) → IfErr r (λ fault. Halts k old new fault (λ w. xs w ++ ys w))
 halts_behind r k old middle new xs ys first halts =

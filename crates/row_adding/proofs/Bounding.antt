@@ -1,6 +1,7 @@
 -- The bounds by elements, one behind the other.
-use Rattle.std.proofs.Common.{◌≡◌, ℕ, zero, suc, ◌+◌, ◌≤◌, Bool, List, [], ◌∷◌, ◌++◌, length, drop, slice_get, Some, refl, sym, ◌∙◌, ap, subst, arith}
+use Rattle.std.proofs.Common.{◌≡◌, ℕ, zero, suc, ◌+◌, ◌≤◌, Bool, List, [], ◌∷◌, ◌++◌, length, drop, slice_get, Some, sym, ◌∙◌, ap, subst, arith}
 use Rattle.qual_base.specs.declared.places.Span.{Span}
+use Rattle.qual_base.proofs.Lists.{drop_past}
 use Rattle.lattice_core.specs.declared.Entry.{Entry}
 use Rattle.lattice_core.specs.View.{LatticeView}
 use Rattle.flow_graph.specs.declared.graph.GraphFault.{GraphFault}
@@ -17,18 +18,12 @@ drop_there [] n x is = absurd cc
 drop_there (y ∷ ys) zero x is = let e : y ≡ x = cc in ap (λ z. z ∷ ys) e
 drop_there (y ∷ ys) (suc n) x is = let e : suc n + 1 ≡ suc (n + 1) = omega arith in rw e (drop_there ys n x is)
 
--- past its end nothing of a list is left
-pub drop_past : {A : Type 0} (xs : List A) (n : ℕ) → length xs ≤ n → drop n xs ≡ []
-drop_past [] zero le = refl
-drop_past [] (suc n) le = refl
-drop_past (x ∷ xs) zero le = absurd (omega arith)
-drop_past (x ∷ xs) (suc n) le = drop_past xs n (omega arith)
-
 module _ (test : Entry → Bool) (v : ℕ) (s : Span) where
   entry_next : (l n : ℕ) (es : List Entry) (e : Entry) → slice_get es n ≡ Some e
       → bounds_of test v s l n (drop n es) ≡ bound_by test v s l n e ++ bounds_of test v s l (n + 1) (drop (n + 1) es)
   entry_next l n es e is = ap (bounds_of test v s l n) (drop_there es n e is)
-      ∙ (let one : suc n ≡ n + 1 = omega arith in ap (λ m. bound_by test v s l n e ++ bounds_of test v s l m (drop (n + 1) es)) one)
+      ∙ (let one : suc n ≡ n + 1 = omega arith in
+      ap (λ m. bound_by test v s l n e ++ bounds_of test v s l m (drop (n + 1) es)) one)
 
   pub no_entry_left : (l n : ℕ) (es : List Entry) (a : System) → length es ≤ n
       → a ≡ with a (bounds_of test v s l n (drop n es))
@@ -37,7 +32,8 @@ module _ (test : Entry → Bool) (v : ℕ) (s : Span) where
   pub entry_added : (l n : ℕ) (es : List Entry) (e : Entry) (a b c : System) → slice_get es n ≡ Some e
       → b ≡ with a (bound_by test v s l n e) → c ≡ with b (bounds_of test v s l (n + 1) (drop (n + 1) es))
       → c ≡ with a (bounds_of test v s l n (drop n es))
-  entry_added l n es e a b c is first rest = rest ∙ ap (λ g. with g (bounds_of test v s l (n + 1) (drop (n + 1) es))) first
+  entry_added l n es e a b c is first rest =
+      rest ∙ ap (λ g. with g (bounds_of test v s l (n + 1) (drop (n + 1) es))) first
       ∙ sym (with_append a (bound_by test v s l n e) (bounds_of test v s l (n + 1) (drop (n + 1) es)))
       ∙ ap (with a) (sym (entry_next l n es e is))
 
@@ -54,9 +50,11 @@ module _ (test : Entry → Bool) (v : ℕ) (s : Span) where
       (stop_back a b c f (bound_by test v s l n e) (bounds_of test v s l (n + 1) (drop (n + 1) es)) first stop)
 
   view_next : (n : ℕ) (ls : List LatticeView) (l : LatticeView) → slice_get ls n ≡ Some l
-      → bounds_from test v s n (drop n ls) ≡ bounds_of test v s n 0 (drop 0 l.entries) ++ bounds_from test v s (n + 1) (drop (n + 1) ls)
+      → bounds_from test v s n (drop n ls) ≡ bounds_of test v s n 0 (drop 0 l.entries)
+      ++ bounds_from test v s (n + 1) (drop (n + 1) ls)
   view_next n ls l is = ap (bounds_from test v s n) (drop_there ls n l is)
-      ∙ (let one : suc n ≡ n + 1 = omega arith in ap (λ m. bounds_of test v s n 0 l.entries ++ bounds_from test v s m (drop (n + 1) ls)) one)
+      ∙ (let one : suc n ≡ n + 1 = omega arith in
+      ap (λ m. bounds_of test v s n 0 l.entries ++ bounds_from test v s m (drop (n + 1) ls)) one)
 
   pub no_view_left : (n : ℕ) (ls : List LatticeView) (a : System) → length ls ≤ n
       → a ≡ with a (bounds_from test v s n (drop n ls))
@@ -75,7 +73,8 @@ module _ (test : Entry → Bool) (v : ℕ) (s : Span) where
       → StopsEarly a b f (bounds_of test v s n 0 (drop 0 l.entries))
       → StopsEarly a b f (bounds_from test v s n (drop n ls))
   stops_at_view n ls l a b f is stop = subst (StopsEarly a b f) (sym (view_next n ls l is))
-      (stop_front a b f (bounds_of test v s n 0 (drop 0 l.entries)) (bounds_from test v s (n + 1) (drop (n + 1) ls)) stop)
+      (stop_front a b f (bounds_of test v s n 0 (drop 0 l.entries))
+      (bounds_from test v s (n + 1) (drop (n + 1) ls)) stop)
 
   pub stops_behind_view : (n : ℕ) (ls : List LatticeView) (l : LatticeView) (a b c : System) (f : GraphFault)
       → slice_get ls n ≡ Some l
@@ -83,7 +82,8 @@ module _ (test : Entry → Bool) (v : ℕ) (s : Span) where
       → StopsEarly b c f (bounds_from test v s (n + 1) (drop (n + 1) ls))
       → StopsEarly a c f (bounds_from test v s n (drop n ls))
   stops_behind_view n ls l a b c f is first stop = subst (StopsEarly a c f) (sym (view_next n ls l is))
-      (stop_back a b c f (bounds_of test v s n 0 (drop 0 l.entries)) (bounds_from test v s (n + 1) (drop (n + 1) ls)) first stop)
+      (stop_back a b c f (bounds_of test v s n 0 (drop 0 l.entries))
+      (bounds_from test v s (n + 1) (drop (n + 1) ls)) first stop)
 
   -- the same by a number that is equal
   pub entry_added_at : (l n m : ℕ) (es : List Entry) (e : Entry) (a b c : System) → m ≡ n → slice_get es m ≡ Some e

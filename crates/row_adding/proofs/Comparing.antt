@@ -73,20 +73,23 @@ no_views (x ∷ xs) (suc i) le = no_views xs i (omega arith)
 
 module _ (n : ℕ) (ls : List LatticeView) where
   next : (l : LatticeView) → slice_get ls n ≡ Some l
-      → value_lattices_from n (drop n ls) ≡ (if is_value_lattice l then 2 ^ n else 0) + value_lattices_from (n + 1) (drop (n + 1) ls)
+      → value_lattices_from n (drop n ls)
+      ≡ (if is_value_lattice l then 2 ^ n else 0) + value_lattices_from (n + 1) (drop (n + 1) ls)
   next l is = ap (value_lattices_from n) (drop_there ls n l is)
       ∙ (let e : suc n ≡ n + 1 = omega arith in
       ap (λ k. (if is_value_lattice l then 2 ^ n else 0) + value_lattices_from k (drop (n + 1) ls)) e)
 
   pub value_here : (l : LatticeView) (r q : ℕ) → slice_get ls n ≡ Some l → true ≡ is_value_lattice l → q ≡ 2 ^ n
       → r ≡ value_lattices_from (n + 1) (drop (n + 1) ls) → r + q ≡ value_lattices_from n (drop n ls)
-  value_here l r q is holds power so = (let e : r + q ≡ q + r = omega arith in e) ∙ ap (λ k. k + r) power ∙ ap (λ k. 2 ^ n + k) so
+  value_here l r q is holds power so =
+      (let e : r + q ≡ q + r = omega arith in e) ∙ ap (λ k. k + r) power ∙ ap (λ k. 2 ^ n + k) so
       ∙ ap (λ b. (if b then 2 ^ n else 0) + value_lattices_from (n + 1) (drop (n + 1) ls)) holds ∙ sym (next l is)
 
   pub none_here : (l : LatticeView) (r : ℕ) → slice_get ls n ≡ Some l → false ≡ is_value_lattice l
       → r ≡ value_lattices_from (n + 1) (drop (n + 1) ls) → r ≡ value_lattices_from n (drop n ls)
   none_here l r is fails so = so
-      ∙ (let e : value_lattices_from (n + 1) (drop (n + 1) ls) ≡ 0 + value_lattices_from (n + 1) (drop (n + 1) ls) = omega arith in e)
+      ∙ (let e : value_lattices_from (n + 1) (drop (n + 1) ls) ≡ 0 + value_lattices_from (n + 1) (drop (n + 1) ls) =
+      omega arith in e)
       ∙ ap (λ b. (if b then 2 ^ n else 0) + value_lattices_from (n + 1) (drop (n + 1) ls)) fails ∙ sym (next l is)
 
   pub no_more : length ls ≤ n → 0 ≡ value_lattices_from n (drop n ls)
@@ -97,11 +100,14 @@ module _ (n : ℕ) (ls : List LatticeView) where
 module _ (w : World) (m : ℕ) (is : m ≡ value_lattices w) where
   each_is : (it : Indexed) (xs : List Indexed) → below_in m it xs ≡ below_each w it xs
   each_is it [] = refl
-  each_is it (x ∷ xs) = ap (λ k. below_one k it x ++ below_in m it xs) is ∙ ap (λ cs. below_one (value_lattices w) it x ++ cs) (each_is it xs)
+  each_is it (x ∷ xs) =
+      ap (λ k. below_one k it x ++ below_in m it xs) is
+      ∙ ap (λ cs. below_one (value_lattices w) it x ++ cs) (each_is it xs)
 
   all_is : (xs all : List Indexed) → all_below_in m xs all ≡ below_all w xs all
   all_is [] all = refl
-  all_is (x ∷ xs) all = ap (λ cs. cs ++ all_below_in m xs all) (each_is x all) ∙ ap (λ cs. below_each w x all ++ cs) (all_is xs all)
+  all_is (x ∷ xs) all =
+      ap (λ cs. cs ++ all_below_in m xs all) (each_is x all) ∙ ap (λ cs. below_each w x all ++ cs) (all_is xs all)
 
   module _ (xs : List IndexedNode) (ns : List Indexed) (shown : map indexed_of xs ≡ ns) where
     row_is : all_below_in m (map indexed_of xs) (map indexed_of xs) ≡ below_all w ns ns

@@ -15,7 +15,8 @@ module _ (w : World) (token : ℕ) (p here : Place) (s : Span) where
       → in_all w s (cross (site_number w here) (skeleton w p) (skeleton w here)) ≡ instance_row w token p
   crossing place spanned =
       ap (λ (q : Place). in_all w s (cross (site_number w q) (skeleton w p) (skeleton w q))) place
-      ∙ ap (λ (x : Span). in_all w x (cross (site_number w (at w token)) (skeleton w p) (skeleton w (at w token)))) spanned
+      ∙ ap
+      (λ (x : Span). in_all w x (cross (site_number w (at w token)) (skeleton w p) (skeleton w (at w token)))) spanned
 
   pub crossed : here ≡ at w token → s ≡ span w token token → (old new : System)
       → new ≡ with old (in_all w s (cross (site_number w here) (skeleton w p) (skeleton w here)))

@@ -1,15 +1,12 @@
 -- The lattices of which no word is written on a type.
 use Rattle.std.proofs.Common.{◌≡◌, ℕ, zero, suc, ◌+◌, ◌*◌, ◌^◌, ◌<◌, ◌≤◌, nat_eq, Bool, true, false, ◌||◌, List, [], ◌∷◌, ◌++◌, length, drop, slice_index_or, Some, None, refl, sym, ◌∙◌, ap, arith, if◌then◌else◌}
 use Rattle.std.proofs.Math.Nat.{pow-suc}
+use Rattle.qual_base.proofs.Tests.{or_false}
 use Rattle.lattice_core.specs.View.{LatticeView}
 use Rattle.type_table.specs.Types.{Words}
 use Rattle.name_rules.specs.Spellings.{Place}
 use Rattle.row_rules.specs.Worlds.{World}
 use Rattle.row_rules.specs.Annotations.{names_lattice, uncut_from}
-
-or_false : (b : Bool) → b || false ≡ b
-or_false true = refl
-or_false false = refl
 
 or_or : (a b c : Bool) → (a || b) || c ≡ a || (b || c)
 or_or true b c = refl
@@ -43,12 +40,14 @@ module _ (w : World) (l : ℕ) where
   pub named_here : (p : Place) (xs : Words) (n : ℕ) → p ≡ slice_index_or xs n p → n < length xs
       → true ≡ names_lattice w l (p ∷ []) → names_lattice w l (drop n xs) ≡ names_lattice w l xs
       → true ≡ names_lattice w l xs
-  named_here p xs n is lt holds so = ap (λ b. b || names_lattice w l (drop (n + 1) xs)) holds ∙ sym (here p xs n is lt) ∙ so
+  named_here p xs n is lt holds so =
+      ap (λ b. b || names_lattice w l (drop (n + 1) xs)) holds ∙ sym (here p xs n is lt) ∙ so
 
   pub not_here : (p : Place) (xs : Words) (n : ℕ) → p ≡ slice_index_or xs n p → n < length xs
       → false ≡ names_lattice w l (p ∷ []) → names_lattice w l (drop n xs) ≡ names_lattice w l xs
       → names_lattice w l (drop (n + 1) xs) ≡ names_lattice w l xs
-  not_here p xs n is lt fails so = ap (λ b. b || names_lattice w l (drop (n + 1) xs)) fails ∙ sym (here p xs n is lt) ∙ so
+  not_here p xs n is lt fails so =
+      ap (λ b. b || names_lattice w l (drop (n + 1) xs)) fails ∙ sym (here p xs n is lt) ∙ so
 
   pub none_named : (xs : Words) (n : ℕ) → length xs ≤ n → names_lattice w l (drop n xs) ≡ names_lattice w l xs
       → false ≡ names_lattice w l xs
@@ -62,18 +61,24 @@ module _ (w : World) (l : ℕ) where
 
 module _ (w : World) (ps : Words) where
   next : (n : ℕ) (ls : List LatticeView) → n < length ls
-      → uncut_from w ps n (drop n ls) ≡ (if names_lattice w n ps then 0 else 2 ^ n) + uncut_from w ps (n + 1) (drop (n + 1) ls)
+      → uncut_from w ps n (drop n ls)
+      ≡ (if names_lattice w n ps then 0 else 2 ^ n) + uncut_from w ps (n + 1) (drop (n + 1) ls)
   next n ls lt = from n n ls lt
     where
       from : (k n : ℕ) (ls : List LatticeView) → n < length ls
-          → uncut_from w ps k (drop n ls) ≡ (if names_lattice w k ps then 0 else 2 ^ k) + uncut_from w ps (k + 1) (drop (n + 1) ls)
+          → uncut_from w ps k (drop n ls)
+          ≡ (if names_lattice w k ps then 0 else 2 ^ k) + uncut_from w ps (k + 1) (drop (n + 1) ls)
       from k n [] lt = absurd (omega arith)
-      from k zero (x ∷ xs) lt = let e : suc k ≡ k + 1 = omega arith in ap (λ m. (if names_lattice w k ps then 0 else 2 ^ k) + uncut_from w ps m xs) e
+      from k zero (x ∷ xs) lt =
+          let e : suc k ≡ k + 1 = omega arith in
+          ap (λ m. (if names_lattice w k ps then 0 else 2 ^ k) + uncut_from w ps m xs) e
       from k (suc n) (x ∷ xs) lt = let e : suc n + 1 ≡ suc (n + 1) = omega arith in rw e (from k n xs (omega arith))
 
   pub cut_here : (n r : ℕ) (ls : List LatticeView) → n < length ls → true ≡ names_lattice w n ps
       → r ≡ uncut_from w ps (n + 1) (drop (n + 1) ls) → r ≡ uncut_from w ps n (drop n ls)
-  cut_here n r ls lt holds is = is ∙ (let e : uncut_from w ps (n + 1) (drop (n + 1) ls) ≡ 0 + uncut_from w ps (n + 1) (drop (n + 1) ls) = omega arith in e)
+  cut_here n r ls lt holds is =
+      is ∙ (let e : uncut_from w ps (n + 1) (drop (n + 1) ls) ≡ 0 + uncut_from w ps (n + 1) (drop (n + 1) ls) =
+      omega arith in e)
       ∙ ap (λ b. (if b then 0 else 2 ^ n) + uncut_from w ps (n + 1) (drop (n + 1) ls)) holds ∙ sym (next n ls lt)
 
   pub uncut_here : (n r q : ℕ) (ls : List LatticeView) → n < length ls → false ≡ names_lattice w n ps → q ≡ 2 ^ n

@@ -13,7 +13,8 @@ use Rattle.row_rules.specs.Worlds.{constraint, constraints}
 use Rattle.row_adding.specs.Adding.{StopsEarly}
 
 pub with_append : (sys : System) (xs ys : List Constraint) → with sys (xs ++ ys) ≡ with (with sys xs) ys
-with_append sys xs ys = ap (λ (l : List Constraint). record sys { constraints = l }) (sym (append_assoc sys.constraints xs ys))
+with_append sys xs ys =
+    ap (λ (l : List Constraint). record sys { constraints = l }) (sym (append_assoc sys.constraints xs ys))
 
 append_nil : (xs : List Constraint) → xs ++ [] ≡ xs
 append_nil [] = refl
@@ -31,7 +32,9 @@ take_front (suc n) (x ∷ xs) ys le = ap (λ (l : List Constraint). x ∷ l) (ta
 
 take_back : (n : ℕ) (xs ys : List Constraint) → take (length xs + n) (xs ++ ys) ≡ xs ++ take n ys
 take_back n [] ys = let e : 0 + n ≡ n = omega arith in ap (λ k. take k ys) e
-take_back n (x ∷ xs) ys = let e : length (x ∷ xs) + n ≡ suc (length xs + n) = omega arith in rw e (ap (λ (l : List Constraint). x ∷ l) (take_back n xs ys))
+take_back n (x ∷ xs) ys =
+    let e : length (x ∷ xs) + n ≡ suc (length xs + n) = omega arith in
+    rw e (ap (λ (l : List Constraint). x ∷ l) (take_back n xs ys))
 
 -- an adding that stops in the first list, and one that stops in the second
 pub stop_front : (a b : System) (f : GraphFault) (xs ys : List Constraint) → StopsEarly a b f xs
@@ -49,7 +52,8 @@ pub stop_back : (a b c : System) (f : GraphFault) (xs ys : List Constraint) → 
 stop_back a b c f xs ys e h = record {
   added = length xs + h.added;
   within = let l = h.within in let m = length-append xs ys in omega (arith, l, m);
-  part = h.part ∙ (ap (λ (s : System). with s (take h.added ys)) e ∙ (sym (with_append a xs (take h.added ys)) ∙ ap (with a) (sym (take_back h.added xs ys))));
+  part = h.part ∙ (ap (λ (s : System). with s (take h.added ys)) e
+      ∙ (sym (with_append a xs (take h.added ys)) ∙ ap (with a) (sym (take_back h.added xs ys))));
   full = λ is. let l = h.full is in let m = length-append xs ys in let le = l.0 in (omega (arith, le, m), l.1);
 }
 
@@ -121,4 +125,5 @@ with_all a b m n s links same is = with_marked a b m s links is ∙ ap (λ k. wi
 
 pub stop_all : (a b : System) (f : GraphFault) (m n : ℕ) (s : Span) (links : List Link) → m ≡ n
     → Stops a b f (marked m s links) → StopsEarly a b f (constraints n s links)
-stop_all a b f m n s links same stop = subst (λ k. StopsEarly a b f (constraints k s links)) same (stop_marked a b f m s links stop)
+stop_all a b f m n s links same stop =
+    subst (λ k. StopsEarly a b f (constraints k s links)) same (stop_marked a b f m s links stop)

@@ -18,7 +18,8 @@ no_more (x ∷ xs) = ap (λ ys. x ∷ ys) (no_more xs)
 
 module _ (w : World) where
   alone : (v : ℕ) (xs : Words) → annotations_at v (sorted xs) ≡ annotations_at v (sorted (xs ++ [])) ++ []
-  alone v xs = ap (λ ys. annotations_at v (sorted ys)) (sym (no_more xs)) ∙ sym (no_more (annotations_at v (sorted (xs ++ []))))
+  alone v xs =
+      ap (λ ys. annotations_at v (sorted ys)) (sym (no_more xs)) ∙ sym (no_more (annotations_at v (sorted (xs ++ []))))
 
   pub annotated_is : (t : CType) (s : Skel)
       → annotated w t s ≡ annotations_at (root s) (sorted (words_at w t)) ++ annotated_inside w t s
@@ -26,46 +27,59 @@ module _ (w : World) where
   annotated_is (void ws) s = alone (root s) (words_of_level w false ws)
   annotated_is (struct ws n) s = alone (root s) (words_of_level w false ws)
   annotated_is (pointer ws t) s = refl
-  annotated_is (function ws ps r e) s = ap (λ ys. annotations_at (root s) (sorted ys) ++ annotated_inside w (function ws ps r e) s) (sym (no_more (words_of_level w false ws)))
+  annotated_is (function ws ps r e) s =
+      ap (λ ys. annotations_at (root s) (sorted ys) ++ annotated_inside w (function ws ps r e) s)
+      (sym (no_more (words_of_level w false ws)))
 
   row_is : (t : CType) (s : Skel)
-      → annotating w t s ≡ words_row w (root s) (sorted (words_at w t)) ++ annotation_constraints w (annotated_inside w t s)
-  row_is t s = ap (annotation_constraints w) (annotated_is t s) ∙ annotations_append w (annotations_at (root s) (sorted (words_at w t))) (annotated_inside w t s)
+      → annotating w t s ≡ words_row w (root s) (sorted (words_at w t))
+      ++ annotation_constraints w (annotated_inside w t s)
+  row_is t s =
+      ap (annotation_constraints w) (annotated_is t s)
+      ∙ annotations_append w (annotations_at (root s) (sorted (words_at w t))) (annotated_inside w t s)
 
   module _ (t : CType) (s : Skel) (a b c : System) (f : GraphFault) where
     pub node_added : b ≡ with a (words_row w (root s) (sorted (words_at w t)))
         → c ≡ with b (annotation_constraints w (annotated_inside w t s))
         → c ≡ with a (annotating w t s)
     node_added first rest = rest ∙ ap (λ g. with g (annotation_constraints w (annotated_inside w t s))) first
-        ∙ sym (with_append a (words_row w (root s) (sorted (words_at w t))) (annotation_constraints w (annotated_inside w t s)))
+        ∙ sym (with_append a (words_row w (root s) (sorted (words_at w t)))
+        (annotation_constraints w (annotated_inside w t s)))
         ∙ ap (with a) (sym (row_is t s))
 
     pub stops_at_node : StopsEarly a b f (words_row w (root s) (sorted (words_at w t)))
         → StopsEarly a b f (annotating w t s)
     stops_at_node stop = subst (StopsEarly a b f) (sym (row_is t s))
-        (stop_front a b f (words_row w (root s) (sorted (words_at w t))) (annotation_constraints w (annotated_inside w t s)) stop)
+        (stop_front a b f (words_row w (root s) (sorted (words_at w t)))
+        (annotation_constraints w (annotated_inside w t s)) stop)
 
     pub stops_inside_node : b ≡ with a (words_row w (root s) (sorted (words_at w t)))
         → StopsEarly b c f (annotation_constraints w (annotated_inside w t s))
         → StopsEarly a c f (annotating w t s)
     stops_inside_node first stop = subst (StopsEarly a c f) (sym (row_is t s))
-        (stop_back a b c f (words_row w (root s) (sorted (words_at w t))) (annotation_constraints w (annotated_inside w t s)) first stop)
+        (stop_back a b c f (words_row w (root s) (sorted (words_at w t)))
+        (annotation_constraints w (annotated_inside w t s)) first stop)
 
   place_is : (t : CType) (s : Skel) → annotating w (pointer [] t) s
       ≡ words_row w (root s) (sorted (words_of_level w true (words_of t))) ++ annotating w t (inner s)
-  place_is t s = annotations_append w (annotations_at (root s) (sorted (words_of_level w true (words_of t)))) (annotated w t (inner s))
+  place_is t s =
+      annotations_append w (annotations_at (root s) (sorted (words_of_level w true (words_of t))))
+      (annotated w t (inner s))
 
   module _ (t : CType) (s u : Skel) (v : ℕ) (a b c : System) (f : GraphFault) where
     place_at : v ≡ root s → u ≡ inner s
-        → words_row w v (sorted (words_of_level w true (words_of t))) ++ annotating w t u ≡ annotating w (pointer [] t) s
+        → words_row w v (sorted (words_of_level w true (words_of t)))
+        ++ annotating w t u ≡ annotating w (pointer [] t) s
     place_at at inside = ap (λ n. words_row w n (sorted (words_of_level w true (words_of t))) ++ annotating w t u) at
-        ∙ ap (λ x. words_row w (root s) (sorted (words_of_level w true (words_of t))) ++ annotating w t x) inside ∙ sym (place_is t s)
+        ∙ ap (λ x. words_row w (root s) (sorted (words_of_level w true (words_of t))) ++ annotating w t x) inside
+        ∙ sym (place_is t s)
 
     pub place_added : v ≡ root s → u ≡ inner s
         → b ≡ with a (words_row w v (sorted (words_of_level w true (words_of t))))
         → c ≡ with b (annotating w t u) → c ≡ with a (annotating w (pointer [] t) s)
     place_added at inside first rest = rest ∙ ap (λ g. with g (annotating w t u)) first
-        ∙ sym (with_append a (words_row w v (sorted (words_of_level w true (words_of t)))) (annotating w t u)) ∙ ap (with a) (place_at at inside)
+        ∙ sym (with_append a (words_row w v (sorted (words_of_level w true (words_of t)))) (annotating w t u))
+        ∙ ap (with a) (place_at at inside)
 
     pub stops_at_place : v ≡ root s → u ≡ inner s
         → StopsEarly a b f (words_row w v (sorted (words_of_level w true (words_of t))))

@@ -1,5 +1,6 @@
 -- What items give, one behind the other.
 use Rattle.std.proofs.Common.{◌≡◌, ℕ, zero, suc, ◌+◌, ◌<◌, ◌≤◌, List, [], ◌∷◌, ◌++◌, length, take, drop, slice_index_or, refl, sym, ◌∙◌, ap, subst, arith, append_assoc}
+use Rattle.qual_base.proofs.Lists.{take_whole}
 use Rattle.flow_graph.specs.declared.constraint.Constraint.{Constraint}
 use Rattle.flow_graph.specs.declared.graph.GraphFault.{GraphFault}
 use Rattle.flow_graph.specs.System.{System}
@@ -17,27 +18,24 @@ module _ {X : Type 0} (row : X → List Constraint) (rows : List X → List Cons
   up_to : (xs : List X) (i : ℕ) (x : X) → x ≡ slice_index_or xs i x → i < length xs
       → rows (take (i + 1) xs) ≡ rows (take i xs) ++ row x
   up_to [] i x is lt = absurd (omega arith)
-  up_to (y ∷ ys) zero x is lt = more y [] ∙ ap (λ (l : List Constraint). row y ++ l) none ∙ append_nil (row y) ∙ ap row (sym is)
+  up_to (y ∷ ys) zero x is lt =
+      more y [] ∙ ap (λ (l : List Constraint). row y ++ l) none ∙ append_nil (row y) ∙ ap row (sym is)
       ∙ ap (λ (l : List Constraint). l ++ row x) (sym none)
   up_to (y ∷ ys) (suc i) x is lt = let e : suc i + 1 ≡ suc (i + 1) = omega arith in
       rw e (more y (take (i + 1) ys) ∙ ap (λ (l : List Constraint). row y ++ l) (up_to ys i x is (omega arith))
-      ∙ sym (append_assoc (row y) (rows (take i ys)) (row x)) ∙ ap (λ (l : List Constraint). l ++ row x) (sym (more y (take i ys))))
+      ∙ sym (append_assoc (row y) (rows (take i ys)) (row x))
+      ∙ ap (λ (l : List Constraint). l ++ row x) (sym (more y (take i ys))))
 
   whole : (xs : List X) (i : ℕ) (x : X) → x ≡ slice_index_or xs i x → i < length xs
       → (rows (take i xs) ++ row x) ++ rows (drop (i + 1) xs) ≡ rows xs
   whole [] i x is lt = absurd (omega arith)
-  whole (y ∷ ys) zero x is lt = ap (λ (l : List Constraint). (l ++ row x) ++ rows ys) none ∙ ap (λ z. row z ++ rows ys) is ∙ sym (more y ys)
+  whole (y ∷ ys) zero x is lt =
+      ap (λ (l : List Constraint). (l ++ row x) ++ rows ys) none ∙ ap (λ z. row z ++ rows ys) is ∙ sym (more y ys)
   whole (y ∷ ys) (suc i) x is lt = let e : suc i + 1 ≡ suc (i + 1) = omega arith in
       rw e (ap (λ (l : List Constraint). (l ++ row x) ++ rows (drop (i + 1) ys)) (more y (take i ys))
       ∙ ap (λ (l : List Constraint). l ++ rows (drop (i + 1) ys)) (append_assoc (row y) (rows (take i ys)) (row x))
       ∙ append_assoc (row y) (rows (take i ys) ++ row x) (rows (drop (i + 1) ys))
       ∙ ap (λ (l : List Constraint). row y ++ l) (whole ys i x is (omega arith)) ∙ sym (more y ys))
-
-  all_of : (xs : List X) (i : ℕ) → length xs ≤ i → take i xs ≡ xs
-  all_of [] zero le = refl
-  all_of [] (suc i) le = refl
-  all_of (y ∷ ys) zero le = absurd (omega arith)
-  all_of (y ∷ ys) (suc i) le = ap (λ (l : List X). y ∷ l) (all_of ys i (omega arith))
 
   pub none_added : (a : System) (xs : List X) → a ≡ with a (rows (take 0 xs))
   none_added a [] = with_none a ∙ ap (with a) (sym none)
@@ -50,7 +48,7 @@ module _ {X : Type 0} (row : X → List Constraint) (rows : List X → List Cons
 
   pub all_added : (a b : System) (xs : List X) (i : ℕ) → length xs ≤ i → b ≡ with a (rows (take i xs))
       → b ≡ with a (rows xs)
-  all_added a b xs i le before = before ∙ ap (λ (l : List X). with a (rows l)) (all_of xs i le)
+  all_added a b xs i le before = before ∙ ap (λ (l : List X). with a (rows l)) (take_whole xs i le)
 
   pub stops_at_one : (a b c : System) (f : GraphFault) (xs : List X) (i : ℕ) (x : X) → x ≡ slice_index_or xs i x
       → i < length xs

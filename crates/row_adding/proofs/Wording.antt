@@ -38,7 +38,8 @@ module _ (w : World) where
     whole [] i x is lt = absurd (omega arith)
     whole (y ∷ ys) zero x is lt = ap (λ z. word_row w v z ++ words_row w v ys) is
     whole (y ∷ ys) (suc i) x is lt = let e : suc i + 1 ≡ suc (i + 1) = omega arith in
-        rw e (ap (λ (l : List Constraint). l ++ words_row w v (drop (i + 1) ys)) (append_assoc (word_row w v y) (words_row w v (take i ys)) (word_row w v x))
+        rw e (ap (λ (l : List Constraint). l ++ words_row w v (drop (i + 1) ys))
+        (append_assoc (word_row w v y) (words_row w v (take i ys)) (word_row w v x))
         ∙ append_assoc (word_row w v y) (words_row w v (take i ys) ++ word_row w v x) (words_row w v (drop (i + 1) ys))
         ∙ ap (λ (l : List Constraint). word_row w v y ++ l) (whole ys i x is (omega arith)))
 

@@ -10,8 +10,7 @@ use Rattle.row_world.specs.declared.known.Known.{Known}
 use Rattle.row_world.specs.Shown.{Shows}
 
 -- An adding that stopped early: some constraints of the list were added, from the first on. TooMany says that more were
--- to come
--- and that there was no place for the next one.
+-- to come and that there was no place for the next one.
 pub record StopsEarly (old new : System) (fault : GraphFault) (list : List Constraint) : Type 0 where
   pub added : ℕ
   pub within : added ≤ length list

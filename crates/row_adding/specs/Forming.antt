@@ -32,8 +32,11 @@ into_one ways skeletons where_ n it = rules.into_member ways where_ n (skeleton_
 
 -- what passes inside of a pointer to a skeleton
 abbrev pub pointer_formed : rules.Ways → World → Span → ℕ → Skel → List Constraint
-pointer_formed ways w where_ v s = rules.pointing ways where_ v (root s) ++ rules.formed_in ways w.skeletons w.names.aggregates where_ s
+pointer_formed ways w where_ v s =
+    rules.pointing ways where_ v (root s) ++ rules.formed_in ways w.skeletons w.names.aggregates where_ s
 
 -- what passes inside of the parameters and the result of a function
 abbrev pub function_formed : rules.Ways → World → Span → Skels → Skel → List Constraint
-function_formed ways w where_ ps r = rules.all_formed_in ways w.skeletons w.names.aggregates where_ ps ++ rules.formed_in ways w.skeletons w.names.aggregates where_ r
+function_formed ways w where_ ps r =
+    rules.all_formed_in ways w.skeletons w.names.aggregates where_ ps
+    ++ rules.formed_in ways w.skeletons w.names.aggregates where_ r

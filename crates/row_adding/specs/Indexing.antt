@@ -44,7 +44,8 @@ both_indexed w t ts s ss = indexed w t s ++ indexed_params w ts ss
 
 -- the nodes of a function's parameters, of its result and of its further arguments
 abbrev pub function_indexed : World → CTypes → CType → Words → Skel → List Indexed
-function_indexed w ps r es s = indexed_params w ps (parameters s) ++ (indexed w r (outcome s) ++ some_indexed_at w (further s) es)
+function_indexed w ps r es s =
+    indexed_params w ps (parameters s) ++ (indexed w r (outcome s) ++ some_indexed_at w (further s) es)
 
 -- what one node gives with another, in some lattices
 abbrev pub below_one : ℕ → Indexed → Indexed → List Constraint

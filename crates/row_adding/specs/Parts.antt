@@ -21,7 +21,8 @@ use Rattle.row_adding.specs.declared.bounds.Attribute.TheVariants as attributes
 
 -- what an assignment moves into what is in a place
 abbrev pub moved : World → Punct → Bool → Skel → Skel → Span → List Constraint
-moved w p is_zero t b where_ = if is_plus_or_minus p && is_ref t then [] else flowing is_zero b t (all_lattices w) where_
+moved w p is_zero t b where_ =
+    if is_plus_or_minus p && is_ref t then [] else flowing is_zero b t (all_lattices w) where_
 
 -- whether a binary operator lets nothing of its operands into its value: it compares, or moves a pointer
 abbrev pub computes_none : Punct → Skel → Skel → Bool
@@ -35,11 +36,13 @@ has attributes.Access = λ entry. derefs_where false entry.deref
 
 -- the bound by one element
 abbrev pub bound_by : (Entry → Bool) → ℕ → Span → ℕ → ℕ → Entry → List Constraint
-bound_by test v where_ lattice n entry = if test entry then constraint (2 ^ lattice) where_ (Bound v lattice n) ∷ [] else []
+bound_by test v where_ lattice n entry =
+    if test entry then constraint (2 ^ lattice) where_ (Bound v lattice n) ∷ [] else []
 
 -- the signature of the function of a place, crossed with the instance at a token
 abbrev pub instance_row : World → ℕ → Place → List Constraint
-instance_row w token p = in_all w (span w token token) (cross (site_number w (at w token)) (skeleton w p) (skeleton w (at w token)))
+instance_row w token p =
+    in_all w (span w token token) (cross (site_number w (at w token)) (skeleton w p) (skeleton w (at w token)))
 
 -- what a condition gives that has a fresh value
 abbrev pub chosen_row : World → Skel → Skel → Skel → Span → List Constraint
@@ -60,7 +63,8 @@ cast_row w type is_zero a t where_ = if nat_eq (uncut w type) 0 then [] else flo
 
 -- the skeletons of two declarations of a name are equal, where these are two and both have one
 abbrev pub tied : World → Bool → Skel → Skel → Span → List Constraint
-tied w is_one a b where_ = if is_one || (is_nothing a || is_nothing b) then [] else in_all w where_ (equal Flow true a b)
+tied w is_one a b where_ =
+    if is_one || (is_nothing a || is_nothing b) then [] else in_all w where_ (equal Flow true a b)
 
 -- what is given flows into the skeleton of what was no function first, where that is one
 abbrev pub given : World → Bool → Skel → Skel → Span → List Constraint

@@ -182,7 +182,8 @@ module _ (w : World) (o : Option Skel) where
       → picking (inside o w) all t where_ ≡ picking w all t where_
   picking_alike [] t where_ = refl
   picking_alike (it ∷ others) t where_ =
-      ap (λ (rows : List Constraint). flowing it.is_zero (value it.val) t (all_lattices w) where_ ++ rows) (picking_alike others t where_)
+      ap (λ (rows : List Constraint). flowing it.is_zero (value it.val) t (all_lattices w) where_ ++ rows)
+      (picking_alike others t where_)
 
   picked_alike : (all : List Candidate) (t : Skel) (where_ : Span)
       → picked (inside o w) all t where_ ≡ picked w all t where_
@@ -229,8 +230,10 @@ module _ (w : World) (o : Option Skel) where
       cast_demand (inside o w) t is_zero a own where_ ≡ cast_demand w t is_zero a own where_
   cast_alike None is_zero a own where_ = refl
   cast_alike (Some t) is_zero a own where_ =
-      ap (λ (rows : List Constraint). formed w where_ own ++ (rows ++ flowing_in (uncut (inside o w) t))) (annotating_alike t own)
-      ∙ ap (λ (n : ℕ). formed w where_ own ++ (annotating w t own ++ flowing_in n)) (uncut_from_alike (all_words t) 0 w.lattices)
+      ap (λ (rows : List Constraint). formed w where_ own ++ (rows ++ flowing_in (uncut (inside o w) t)))
+      (annotating_alike t own)
+      ∙ ap (λ (n : ℕ). formed w where_ own ++ (annotating w t own ++ flowing_in n))
+      (uncut_from_alike (all_words t) 0 w.lattices)
     where
       flowing_in : ℕ → List Constraint
       flowing_in n = if nat_eq n 0 then [] else flowing is_zero a own n where_
@@ -262,9 +265,11 @@ module _ (w : World) (o : Option Skel) where
   param_alike : (s : Skel) (i : ℕ) (d : Option Declared) → param_row (inside o w) s i d ≡ param_row w s i d
   param_alike s i None = refl
   param_alike s i (Some d) =
-      ap (λ (rows : List Constraint). formed_name w d ++ (rows ++ into_param (inside o w) (param_at (parameters s) i) d))
+      ap (λ (rows : List Constraint).
+      formed_name w d ++ (rows ++ into_param (inside o w) (param_at (parameters s) i) d))
       (annotating_alike (pointer [] d.type) (skeleton w d.at))
-      ∙ ap (λ (rows : List Constraint). formed_name w d ++ (annotating_name w d ++ rows)) (into_alike (param_at (parameters s) i) d)
+      ∙ ap (λ (rows : List Constraint). formed_name w d ++ (annotating_name w d ++ rows))
+      (into_alike (param_at (parameters s) i) d)
 
   row_alike : (row : RowKind) (token : ℕ) → row_at (inside o w) row token ≡ row_at w row token
   row_alike no_row token = refl
@@ -372,7 +377,8 @@ module _ (w : World) (o : Option Skel) where
   expr_step_alike st (exprs.Cond has_middle token first last) = refl
   expr_step_alike st (exprs.Binary sign token first last) = refl
   expr_step_alike st (exprs.Prefix sign token last aims) =
-      ap (λ (it : Val). put 1 it (carrying (aims && is_star sign) (value_at 0 st) st)) (prefix_alike sign token (val_at 0 st) aims)
+      ap (λ (it : Val). put 1 it (carrying (aims && is_star sign) (value_at 0 st) st))
+      (prefix_alike sign token (val_at 0 st) aims)
   expr_step_alike st (exprs.Post sign token first) = refl
   expr_step_alike st (exprs.Index token first last aims) = refl
   expr_step_alike st (exprs.Arg behind first last) = refl
@@ -403,7 +409,8 @@ module _ (w : World) (o : Option Skel) where
   form_step_alike st forms.NoType = refl
   form_step_alike st (forms.Choose token) = refl
   form_step_alike st (forms.Generic token count) =
-      ap (λ (all : List Candidate). put (suc (twice count)) (pick_of (own w token) all) st) (selected_alike token 0 count st)
+      ap (λ (all : List Candidate). put (suc (twice count)) (pick_of (own w token) all) st)
+      (selected_alike token 0 count st)
 
   init_step_alike : (st : State) (op : InitOp) → init_step (inside o w) st op ≡ init_step w st op
   init_step_alike st (inits.Value first last) = refl
@@ -464,7 +471,8 @@ module _ (w : World) (o : Option Skel) where
   expr_row_alike st (exprs.Binary sign token first last) = refl
   expr_row_alike st (exprs.Prefix sign token last aims) =
       ap (λ (is : Bool). if is then carried w (val_at 0 st).skel st.carried (own w token) (span w token token)
-      else prefixed (inside o w) sign (is_zero_at 0 st) (val_at 0 st) (own w token) aims (span w token last)) (carrying_alike sign aims)
+      else prefixed (inside o w) sign (is_zero_at 0 st) (val_at 0 st) (own w token) aims (span w token last))
+      (carrying_alike sign aims)
       ∙ ap (λ (rows : List Constraint). if is_carrying w sign aims
       then carried w (val_at 0 st).skel st.carried (own w token) (span w token token) else rows)
       (prefixed_alike sign (is_zero_at 0 st) (val_at 0 st) (own w token) aims (span w token last))
@@ -497,7 +505,8 @@ module _ (w : World) (o : Option Skel) where
   form_row_alike st forms.NoType = refl
   form_row_alike st (forms.Choose token) = picked_alike (left_of (steps.chosen st)) (own w token) (span w token token)
   form_row_alike st (forms.Generic token count) =
-      ap (λ (all : List Candidate). picked (inside o w) (left_of all) (own w token) (span w token token)) (selected_alike token 0 count st)
+      ap (λ (all : List Candidate). picked (inside o w) (left_of all) (own w token) (span w token token))
+      (selected_alike token 0 count st)
       ∙ picked_alike (left_of (selected w token 0 count st)) (own w token) (span w token token)
 
   init_row_alike : (st : State) (op : InitOp) → init_row (inside o w) st op ≡ init_row w st op

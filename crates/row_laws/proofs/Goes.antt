@@ -61,8 +61,7 @@ stacks_of st =
     }
 
 -- what is of no use behind what it is for: the skeleton of the compound literal that was gone through last, and the
--- pointer by which the
--- last place was come to that is only addressed
+-- pointer by which the last place was come to that is only addressed
 pub record Registers : Type 0 where
   pub literal : Skel
   pub carried : Skel
@@ -185,7 +184,8 @@ pub one : {k : Over} {r : Rounds} {op : Op} {f : Stacks → Stacks} (rows : List
 one {k} {r} {op} {f} rows e d = record { runs = ending _ (op_runs rows e) d }
 
 -- one op that changes registers
-pub one_at : {k : Over} {r : Rounds} {op : Op} {f : Stacks → Stacks} (g : Stacks → Stacks) (n : Stacks → Registers → Registers)
+pub one_at : {k : Over} {r : Rounds} {op : Op} {f : Stacks → Stacks} (g : Stacks → Stacks)
+    (n : Stacks → Registers → Registers)
     (rows : List Constraint) →
     (k.asked ≡ true → (c : Stacks) (s : Registers) → op_row k.world (state r (f c) s) op ≡ unless (is_quiet r) rows)
     → ((c : Stacks) (s : Registers) → step k.world (state r (f c) s) op ≡ state r (g c) (n c s))
@@ -194,7 +194,8 @@ one_at {r = r} g n rows e d = record { runs = ending_at (λ c s. state r (g c) s
 
 -- One op behind a tape that leaves this pointer as the one by which its place was come to: what the op gives may use
 -- it.
-pub carried_on : {k : Over} {r : Rounds} {xs : List Op} {f g h : Stacks → Stacks} {fs : List Constraint} (op : Op) (by : Skel) (rows : List Constraint)
+pub carried_on : {k : Over} {r : Rounds} {xs : List Op} {f g h : Stacks → Stacks} {fs : List Constraint} (op : Op)
+    (by : Skel) (rows : List Constraint)
     → Goes k r xs f g fs →
     ((c : Stacks) (s : Registers) → (run k.world (state r (f c) s) xs).carried ≡ by) →
     (k.asked ≡ true → (c : Stacks) (s : Registers) → s.carried ≡ by →
@@ -207,7 +208,8 @@ carried_on {k} {r} {xs} {f} {g} {h} {fs} op by rows p left e d = record {
     goes = λ c s. run_append k.world xs (op ∷ []) (state r (f c) s) ∙
         (ap (λ (st : State). run k.world st (op ∷ [])) (p.runs.goes c s) ∙ d c (p.runs.behind c s));
     found = λ y c s. rows_append k.world xs (op ∷ []) (state r (f c) s) ∙
-        (ap (λ (all : List Constraint). all ++ rows_found k.world (run k.world (state r (f c) s) xs) (op ∷ [])) (p.runs.found y c s)
+        (ap (λ (all : List Constraint). all ++ rows_found k.world (run k.world (state r (f c) s) xs) (op ∷ []))
+        (p.runs.found y c s)
         ∙ (ap (λ (st : State). unless (is_quiet r) fs ++ rows_found k.world st (op ∷ [])) (p.runs.goes c s)
         ∙ (ap (λ (all : List Constraint). unless (is_quiet r) fs ++ all)
         (append-nil (op_row k.world (state r (g c) (p.runs.behind c s)) op)

@@ -1,6 +1,7 @@
 -- Tapes that change no stack and give no constraint, and parts of tapes that are said in two ways.
 use Rattle.std.proofs.Common.{◌≡◌, ℕ, Bool, true, false, List, [], ◌∷◌, ◌++◌, Option, None, Some, refl, ap, ◌∙◌}
-use Rattle.std.specs.Prelude.{◌&&◌, if◌then◌else◌}
+use Rattle.std.specs.Prelude.{if◌then◌else◌}
+use Rattle.qual_base.proofs.Tests.{and_second, and_first}
 use Rattle.c_syntax.specs.declared.parts.Identifier.{Identifier}
 use Rattle.c_syntax.specs.declared.parts.Qual.{Qual}
 use Rattle.c_syntax.specs.declared.parts.Qual.TheVariants as quals
@@ -10,12 +11,10 @@ use Rattle.c_syntax.specs.declared.parts.ArrayWord.{ArrayWord}
 use Rattle.c_syntax.specs.declared.parts.ArrayWord.TheVariants as array_words
 use Rattle.tape_ops.specs.declared.op.Op.{Op}
 use Rattle.tape_ops.specs.declared.specifier.TagKind.{TagKind}
-use Rattle.c_tree.specs.Tree.{SpecWords, no_words, more_words, SpecWord, storage, thread, inline_word, noreturn, qualifier, basic, struct_type, enum_type, typedef_name, attribute, EnumType, enum_of, Declr, pointer, declr_name, declr_paren, array, params, abs_pointer, abs_paren, abs_array, abs_params, SomeDeclr, no_declr, some_declr, Params, no_params, more_params, Dots, typeof_value, typeof_type, align, auto_word, identifiers, base_name}
-use Rattle.c_tree.specs.Firsts as tape_tokens
-use Rattle.c_tape.specs.Tests.{is_bare_word, is_bare, is_name, says_none}
+use Rattle.c_tree.specs.Tree.{SpecWords, no_words, more_words, SpecWord, storage, thread, inline_word, noreturn, qualifier, basic, struct_type, enum_type, typedef_name, attribute, Declr, pointer, declr_name, declr_paren, array, params, abs_pointer, abs_paren, abs_array, abs_params, SomeDeclr, no_declr, some_declr, Params, no_params, more_params, Dots, typeof_value, typeof_type, align, auto_word, identifiers, base_name}
+use Rattle.c_tape.specs.Tests.{is_bare_word, is_bare, says_none}
 use Rattle.c_tape.specs.Tape.{pointer_words_tape, array_words_tape, quals_tape, dots_tape, pieces, some_pieces, tag_tape}
 use Rattle.flow_graph.specs.declared.constraint.Constraint.{Constraint}
-use Rattle.type_rules.specs.Tokens as rule_tokens
 use Rattle.qual_types.specs.Skel.{Skel}
 use Rattle.row_rules.specs.Worlds.{World}
 use Rattle.row_rules.specs.RowSteps.Rounds.{Rounds}
@@ -43,7 +42,8 @@ module _ (k : Over) (r : Rounds) where
 
   pointer_words_idle : (words : List PointerWord) → Idle k r (pointer_words_tape words)
   pointer_words_idle [] = nowhere
-  pointer_words_idle (pointer_words.Qual q ∷ words) = both (one [] (λ y c s. refl) (λ c s. refl)) (pointer_words_idle words)
+  pointer_words_idle (pointer_words.Qual q ∷ words) =
+      both (one [] (λ y c s. refl) (λ c s. refl)) (pointer_words_idle words)
   pointer_words_idle (pointer_words.Attr attr ∷ words) = both nowhere (pointer_words_idle words)
 
   array_words_idle : (words : List ArrayWord) → Idle k r (array_words_tape words)
@@ -59,12 +59,14 @@ module _ (k : Over) (r : Rounds) where
 
   mutual
     pub pieces_idle : (d : Declr) → Idle k r (pieces d)
-    pieces_idle (pointer star words d) = both (both (pointer_words_idle words) (one [] (λ y c s. refl) (λ c s. refl))) (pieces_idle d)
+    pieces_idle (pointer star words d) =
+        both (both (pointer_words_idle words) (one [] (λ y c s. refl) (λ c s. refl))) (pieces_idle d)
     pieces_idle (declr_name token name) = nowhere
     pieces_idle (declr_paren opening attrs d closing) = pieces_idle d
     pieces_idle (array d opening words size closing) =
         both (both (array_words_idle words) (one [] (λ y c s. refl) (λ c s. refl))) (pieces_idle d)
-    pieces_idle (params d opening ps dots closing) = both (both (dots_idle dots) (one [] (λ y c s. refl) (λ c s. refl))) (pieces_idle d)
+    pieces_idle (params d opening ps dots closing) =
+        both (both (dots_idle dots) (one [] (λ y c s. refl) (λ c s. refl))) (pieces_idle d)
     pieces_idle (abs_pointer star words d) =
         both (both (pointer_words_idle words) (one [] (λ y c s. refl) (λ c s. refl))) (some_pieces_idle d)
     pieces_idle (abs_paren opening attrs d closing) = pieces_idle d
@@ -88,45 +90,7 @@ module _ (k : Over) (r : Rounds) where
 
 -- tokens
 
--- the token of a word or element as a qualifier is the same by tapes and by rules
-same_qual : (q : Qual) → tape_tokens.qual_token q ≡ rule_tokens.qual_token q
-same_qual (quals.Word word) = refl
-same_qual (quals.Element token) = refl
-same_qual (quals.Index token) = refl
-
-same_enum : (e : EnumType) → tape_tokens.enum_token e ≡ rule_tokens.enum_token e
-same_enum (enum_of keyword attrs tag body) = refl
-
--- the token of a word of specifiers is the same by tapes and by rules
-same_word : (word : SpecWord) → tape_tokens.word_token word ≡ rule_tokens.word_token word
-same_word (storage word) = refl
-same_word (thread token) = refl
-same_word (inline_word token) = refl
-same_word (noreturn token) = refl
-same_word (qualifier q) = same_qual q
-same_word (basic word) = refl
-same_word (struct_type word attrs tag body) = refl
-same_word (enum_type e) = same_enum e
-same_word (typedef_name name) = refl
-same_word (attribute attr) = refl
-same_word (typeof_value keyword opening e closing) = refl
-same_word (typeof_type word opening ws d closing) = refl
-same_word (align attr) = refl
-same_word (auto_word token) = refl
-
-pub same_first : (ws : SpecWords) → tape_tokens.first_word ws ≡ rule_tokens.first_word ws
-same_first no_words = refl
-same_first (more_words word ws) = same_word word
-
 -- a list of parameters that says that there are none gives nothing
-
-left : (a b : Bool) → (a && b) ≡ true → a ≡ true
-left true b e = refl
-left false b e = e
-
-right : (a b : Bool) → (a && b) ≡ true → b ≡ true
-right true b e = e
-right false b e = absurd cc
 
 module _ (w : World) where
   bare_word : (word : SpecWord) → is_bare_word word ≡ true → word_demand w word ≡ []
@@ -149,8 +113,8 @@ module _ (w : World) where
   bare_words no_words e = refl
   bare_words (more_words word ws) e =
       ap (λ (rows : List Constraint). rows ++ words_demand w ws)
-      (bare_word word (left (is_bare_word word) (is_bare ws) e))
-      ∙ bare_words ws (right (is_bare_word word) (is_bare ws) e)
+      (bare_word word (and_first (is_bare_word word) (is_bare ws) e))
+      ∙ bare_words ws (and_second (is_bare_word word) (is_bare ws) e)
 
   pub none_said : (own : Option Skel) (bare : Bool) (n : ℕ) (ps : Params) → says_none ps ≡ true →
       params_demand w own bare n ps ≡ []
@@ -159,17 +123,3 @@ module _ (w : World) where
       ap (λ (rows : List Constraint). rows ++ []) (bare_words ws e)
   none_said own bare n (more_params ws no_declr attrs (more_params ws2 d attrs2 ps)) e = absurd cc
   none_said own bare n (more_params ws (some_declr d) attrs ps) e = absurd cc
-
--- a declarator that is its name alone
-pub same_name : (d : Declr) → is_name d ≡ rule_tokens.is_bare d
-same_name (pointer star words d) = refl
-same_name (declr_name token name) = refl
-same_name (declr_paren opening attrs d closing) = same_name d
-same_name (array d opening words size closing) = refl
-same_name (params d opening ps dots closing) = refl
-same_name (abs_pointer star words d) = refl
-same_name (abs_paren opening attrs d closing) = refl
-same_name (abs_array d opening words size closing) = refl
-same_name (abs_params d opening ps dots closing) = refl
-same_name (identifiers d opening names closing) = refl
-same_name (base_name token) = refl

@@ -54,8 +54,8 @@ module _ (w : World) (o : Option Skel) where
   each_alike : (it : Indexed) (others : List Indexed) → below_each around it others ≡ below_each w it others
   each_alike it [] = refl
   each_alike it (other ∷ others) =
-      ap (λ (cs : List Constraint). (if is_below it other then
-      constraint (value_lattices w) (word_span it.word) (Le it.variable other.variable) ∷ [] else []) ++ cs) (each_alike it others)
+      ap (λ (cs : List Constraint). (if is_below it other then constraint (value_lattices w) (word_span it.word)
+      (Le it.variable other.variable) ∷ [] else []) ++ cs) (each_alike it others)
 
   all_alike : (its all : List Indexed) → below_all around its all ≡ below_all w its all
   all_alike [] all = refl

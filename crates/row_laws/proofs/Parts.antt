@@ -38,11 +38,12 @@ use Rattle.constraint_rules.specs.Demands as demands
 use Rattle.row_rules.specs.RowSteps.Rounds.{Naming, a_name, own_param, other_param, Rounds, is_quiet, naming, with_round, entered, silenced, next_naming, params_naming}
 use Rattle.row_rules.specs.RowSteps.State.{Operand, expression, put, State, first_operand, val_of_operand, is_zero_operand, type_of_operand, whole}
 use Rattle.name_rules.specs.ShapeSteps.Steps.{twice}
+use Rattle.resolve_laws.proofs.NameLaws.Agreeing.{same_first}
 use Rattle.row_rules.specs.RowSteps.Steps.{run, initialised_by, selected, carrying, with_round_step}
 use Rattle.row_rules.specs.RowSteps.OpRows.{op_row, naming_row, function_skeleton}
 use Rattle.row_laws.proofs.Goes.{Registers, one_at, carried_on, Over, unless, unless_none, Stacks, state, Runs, stay, op_runs, chain, started_from, giving, ending, ending_at, Goes, as_is, one, join, from, next, same, reaching, without, silent_runs, group_two, group_three}
-use Rattle.row_laws.proofs.Stacks.{assocs_on, with_assocs, assocs_kept, under_assocs, drop_above, drop_one_more, with_operand, with_val, top_value, block_put, operand_of, with_expr, with_middle, arguments_on, with_arguments, under_more, under_arguments, with_value, type_at_words, leaves_in, taken_in, taken_above, with_leaves, declaring, token_of}
-use Rattle.row_laws.proofs.Idle.{same_first}
+use Rattle.resolve_laws.proofs.ShapeLaws.Lists.{drop_above, drop_one_more}
+use Rattle.row_laws.proofs.Stacks.{assocs_on, with_assocs, assocs_kept, under_assocs, with_operand, with_val, top_value, block_put, operand_of, with_expr, with_middle, arguments_on, with_arguments, under_more, under_arguments, with_value, type_at_words, leaves_in, taken_in, taken_above, with_leaves, declaring, token_of}
 use Rattle.row_laws.proofs.Rules.{Ruled, ruling, ruled_from, left, list_runs}
 
 -- what the tree says of the function around, is around the tape
@@ -122,12 +123,14 @@ pub operation_rows : (w : World) (aims : Bool) (e : Expr) (op : Operator) (token
 operation_rows w aims e comma token e2 =
     append-nil ((demand w e ++ []) ++ demand w e2)
     ∙ ap (λ (rows : List Constraint). rows ++ demand w e2) (append-nil (demand w e))
-operation_rows w aims e (assign p) token e2 = two_parts (demand w e) (demand w e2) (operator_rows w e (assign p) token e2)
+operation_rows w aims e (assign p) token e2 =
+    two_parts (demand w e) (demand w e2) (operator_rows w e (assign p) token e2)
 operation_rows w aims e (cond no_expr colon) token e2 =
     two_parts (demand w e) (demand w e2) (operator_rows w e (cond no_expr colon) token e2)
 operation_rows w aims e (cond (some_expr m) colon) token e2 =
     group_three (demand w e) (demand w m) (demand w e2) (operator_rows w e (cond (some_expr m) colon) token e2)
-operation_rows w aims e (binary p) token e2 = two_parts (demand w e) (demand w e2) (operator_rows w e (binary p) token e2)
+operation_rows w aims e (binary p) token e2 =
+    two_parts (demand w e) (demand w e2) (operator_rows w e (binary p) token e2)
 
 module _ (k : Over) (r : Rounds) where
   -- operators
@@ -164,10 +167,12 @@ module _ (k : Over) (r : Rounds) where
   pub index_goes : (e : Expr) (opening : ℕ) (e2 : Expr) (closing : ℕ) (aims : Bool) →
       Goes k r (expr (exprs.Index opening (first_token e) closing aims)) (λ c. with_expr k e2 (with_expr k e c))
       (with_expr k (index e opening e2 closing))
-      (index_demand k.world (value (val k.world e)) (value (val k.world e2)) aims (where_is k.world (index e opening e2 closing)))
+      (index_demand k.world (value (val k.world e)) (value (val k.world e2)) aims
+      (where_is k.world (index e opening e2 closing)))
   index_goes e opening e2 closing aims =
       one_at (with_expr k (index e opening e2 closing)) (λ c s. noting aims by s)
-      (index_demand k.world (value (val k.world e)) (value (val k.world e2)) aims (where_is k.world (index e opening e2 closing)))
+      (index_demand k.world (value (val k.world e)) (value (val k.world e2)) aims
+      (where_is k.world (index e opening e2 closing)))
       (λ y c s. refl)
       (λ c s. ap (put_over (with_expr k e2 (with_expr k e c)) s) (noted aims by (with_expr k e2 (with_expr k e c)) s))
     where
@@ -201,19 +206,19 @@ module _ (k : Over) (r : Rounds) where
       Goes k r (addressed ++ expr (exprs.Prefix signs.Ampersand token (last_token e) comes)) as_is
       (with_val 0 (prefix_of k.world token signs.Ampersand (val k.world e) comes))
       (fs ++ (if comes && has_access k.world.lattices
-      then carried k.world (val k.world e).skel (pointer_to k.world e) (own k.world token) (span k.world token token) else []))
+      then carried k.world (val k.world e).skel (pointer_to k.world e) (own k.world token)
+      (span k.world token token) else []))
   address_goes token e p by true is =
       carried_on (ops.Expr (exprs.Prefix signs.Ampersand token (last_token e) true)) (pointer_to k.world e)
-      (if has_access k.world.lattices
-      then carried k.world (val k.world e).skel (pointer_to k.world e) (own k.world token) (span k.world token token) else [])
-      p (by is)
-      (λ y c s same. ap (λ (pointer : Skel). unless (is_quiet r) (if has_access k.world.lattices
-      then carried k.world (val k.world e).skel pointer (own k.world token) (span k.world token token) else [])) same)
-      (λ c s. refl)
+      (if has_access k.world.lattices then carried k.world (val k.world e).skel (pointer_to k.world e)
+      (own k.world token) (span k.world token token) else []) p (by is)
+      (λ y c s same. ap (λ (pointer : Skel). unless (is_quiet r) (if has_access k.world.lattices then carried k.world
+      (val k.world e).skel pointer (own k.world token) (span k.world token token) else [])) same) (λ c s. refl)
   address_goes token e p by false is = join p (one [] (λ y c s. refl) (λ c s. refl))
 
   -- an operator before its operand, by what the tape of that does where it is only addressed and where it is taken
-  pub prefix_goes : (token : ℕ) (p : Punct) (e : Expr) (aims : Bool) {addressed taken : List Op} {fs gs : List Constraint} →
+  pub prefix_goes : (token : ℕ) (p : Punct) (e : Expr) (aims : Bool) {addressed taken : List Op}
+      {fs gs : List Constraint} →
       Goes k r addressed as_is (with_expr k e) fs →
       (comes_by_pointer false e ≡ true → (c : Stacks) (s : Registers) →
       (run k.world (state r c s) addressed).carried ≡ pointer_to k.world e) →
@@ -222,10 +227,13 @@ module _ (k : Over) (r : Rounds) where
       (prefix_demand k.world aims token p e fs gs)
   prefix_goes token signs.Ampersand e aims p by q = address_goes token e p by (comes_by_pointer false e) refl
   prefix_goes token sign e aims p by q =
-      join q (one_at (with_expr k (prefix token sign e)) (λ c s. noting (aims && is_star sign) (value (val k.world e)) s)
-      (prefixed k.world sign (zero_at k.world e) (val k.world e) (own k.world token) aims (where_is k.world (prefix token sign e)))
+      join q (one_at (with_expr k (prefix token sign e))
+      (λ c s. noting (aims && is_star sign) (value (val k.world e)) s)
+      (prefixed k.world sign (zero_at k.world e) (val k.world e) (own k.world token) aims
+      (where_is k.world (prefix token sign e)))
       (λ y c s. refl)
-      (λ c s. ap (λ (st : State). with_round_step (state r (with_expr k e c) s) (ops.Expr (exprs.Prefix sign token (last_token e) aims))
+      (λ c s. ap (λ (st : State).
+      with_round_step (state r (with_expr k e c) s) (ops.Expr (exprs.Prefix sign token (last_token e) aims))
       (put 1 (prefix_of k.world token sign (val k.world e) aims) st))
       (noted (aims && is_star sign) (value (val k.world e)) (with_expr k e c) s)))
 
@@ -234,19 +242,22 @@ module _ (k : Over) (r : Rounds) where
   pub generic_goes : (keyword opening : ℕ) (e : Expr) (xs : Assocs) (closing : ℕ) →
       Goes k r (form (forms.Generic keyword (assoc_count xs))) (λ c. with_assocs k xs (with_expr k e c))
       (with_expr k (generic keyword opening e xs closing))
-      (picked k.world (left_of (candidates_of k.world keyword 0 xs)) (own k.world keyword) (span k.world keyword keyword))
+      (picked k.world (left_of (candidates_of k.world keyword 0 xs)) (own k.world keyword)
+      (span k.world keyword keyword))
   generic_goes keyword opening e xs closing =
-      one_at (with_expr k (generic keyword opening e xs closing)) (λ c s. s)
-      (picked k.world (left_of (candidates_of k.world keyword 0 xs)) (own k.world keyword) (span k.world keyword keyword))
-      found kept
+      one_at (with_expr k (generic keyword opening e xs closing)) (λ c s. s) (picked k.world
+      (left_of (candidates_of k.world keyword 0 xs)) (own k.world keyword) (span k.world keyword keyword)) found kept
     where
       found : k.asked ≡ true → (c : Stacks) (s : Registers) →
-          op_row k.world (state r (with_assocs k xs (with_expr k e c)) s) (ops.Form (forms.Generic keyword (assoc_count xs))) ≡
+          op_row k.world (state r (with_assocs k xs (with_expr k e c)) s)
+          (ops.Form (forms.Generic keyword (assoc_count xs))) ≡
           unless (is_quiet r) (picked k.world (left_of (candidates_of k.world keyword 0 xs)) (own k.world keyword)
           (span k.world keyword keyword))
-      found y c s = ap (λ (all : List Candidate). unless (is_quiet r) (picked k.world (left_of all) (own k.world keyword)
+      found y c s =
+          ap (λ (all : List Candidate). unless (is_quiet r) (picked k.world (left_of all) (own k.world keyword)
           (span k.world keyword keyword)))
-          (assocs_kept k xs keyword 0 (operand_of k e ∷ c.operands) (state r (with_assocs k xs (with_expr k e c)) s) refl)
+          (assocs_kept k xs keyword 0 (operand_of k e ∷ c.operands)
+          (state r (with_assocs k xs (with_expr k e c)) s) refl)
 
       kept : (c : Stacks) (s : Registers) → state r (record c {
         operands = expression (pick_of (own k.world keyword)
@@ -258,11 +269,13 @@ module _ (k : Over) (r : Rounds) where
             operands = expression (pick_of (own k.world keyword) all) false
                 ∷ drop (suc (twice (assoc_count xs))) (assocs_on k xs (operand_of k e ∷ c.operands));
           }) s)
-          (assocs_kept k xs keyword 0 (operand_of k e ∷ c.operands) (state r (with_assocs k xs (with_expr k e c)) s) refl)
+          (assocs_kept k xs keyword 0 (operand_of k e ∷ c.operands)
+          (state r (with_assocs k xs (with_expr k e c)) s) refl)
           ∙ ap (λ (operands : List Operand). state r (record c {
             operands = expression (pick_of (own k.world keyword) (candidates_of k.world keyword 0 xs)) false ∷ operands;
           }) s)
-          (drop_one_more (twice (assoc_count xs)) (assocs_on k xs (operand_of k e ∷ c.operands)) (operand_of k e) c.operands
+          (drop_one_more (twice (assoc_count xs)) (assocs_on k xs (operand_of k e ∷ c.operands))
+          (operand_of k e) c.operands
           (under_assocs k xs (operand_of k e ∷ c.operands)))
 
   -- calls
@@ -375,7 +388,8 @@ module _ (k : Over) (r : Rounds) where
       record {
         runs = giving (ending_at _ (λ c s. literal_at s) (chain (chain behind_type
             (ruled_from (taken_in k list) left (λ c s. gone list (with_value t) c (literal_at s))
-            (list_runs k r list (whole (Some (contents (own k.world opening))))))) (op_runs [] (λ y c s. refl))) put_there)
+            (list_runs k r list (whole (Some (contents (own k.world opening)))))))
+            (op_runs [] (λ y c s. refl))) put_there)
             (λ y. append-nil (((fs ++ gs) ++ literal_row k.world opening t) ++
             list_rule k.world (contents (own k.world opening)) list)
             ∙ group_three fs gs (literal_row k.world opening t)

@@ -19,32 +19,8 @@ use Rattle.row_rules.specs.RowSteps.State.{State, Operand, expression, named_typ
 use Rattle.name_rules.specs.ShapeSteps.Steps.{twice}
 use Rattle.row_rules.specs.RowSteps.Steps.{initialised_by, selected, candidate_at}
 use Rattle.row_laws.proofs.Goes.{Over, Stacks}
-
--- lists
-
--- dropping one element more than before an element leaves those behind that
-pub drop_one_more : {A : Type 0} (n : ℕ) (xs : List A) (y : A) (ys : List A) → drop n xs ≡ y ∷ ys → drop (suc n) xs ≡ ys
-drop_one_more zero [] y ys e = absurd cc
-drop_one_more zero (x ∷ xs) y ys e = cc
-drop_one_more (suc n) [] y ys e = absurd cc
-drop_one_more (suc n) (x ∷ xs) y ys e = drop_one_more n xs y ys e
-
-drop_all : {A : Type 0} (xs ys : List A) → drop (length xs) (xs ++ ys) ≡ ys
-drop_all [] ys = refl
-drop_all (x ∷ xs) ys = drop_all xs ys
-
-take_all : {A : Type 0} (xs ys : List A) → take (length xs) (xs ++ ys) ≡ xs
-take_all {A} [] ys = refl
-take_all {A} (x ∷ xs) ys = ap (λ (zs : List A). x ∷ zs) (take_all xs ys)
-
-above : {A : Type 0} (xs ys : List A) → length (xs ++ ys) - length ys ≡ length xs
-above {A} xs ys = let e : length (xs ++ ys) ≡ length xs + length ys = length-append xs ys in omega arith
-
-pub drop_above : {A : Type 0} (xs ys : List A) → drop (length (xs ++ ys) - length ys) (xs ++ ys) ≡ ys
-drop_above {A} xs ys = ap (λ (n : ℕ). drop n (xs ++ ys)) (above xs ys) ∙ drop_all xs ys
-
-pub take_above : {A : Type 0} (xs ys : List A) → take (length (xs ++ ys) - length ys) (xs ++ ys) ≡ xs
-take_above {A} xs ys = ap (λ (n : ℕ). take n (xs ++ ys)) (above xs ys) ∙ take_all xs ys
+use Rattle.resolve_laws.proofs.ShapeLaws.Blocks as blocks
+use Rattle.resolve_laws.proofs.ShapeLaws.Lists.{drop_one_more, take_above}
 
 -- an operand more
 abbrev pub with_operand : Operand → Stacks → Stacks
@@ -67,7 +43,8 @@ top_value operands = value (val_of_operand (first_operand operands))
 
 -- the end of a block that begins at a token, by whether it keeps a value
 abbrev pub block_put : World → ℕ → Bool → Stacks → Stacks
-block_put w token kept c = if kept then with_val 1 (a_value (top_value c.operands)) c else with_val 0 (a_value (own w token)) c
+block_put w token kept c =
+    if kept then with_val 1 (a_value (top_value c.operands)) c else with_val 0 (a_value (own w token)) c
 
 -- expressions
 
@@ -147,7 +124,8 @@ module _ (k : Over) where
       → drop (twice (assoc_count xs)) (assocs_on xs operands) ≡ operands
   under_assocs no_assocs operands = refl
   under_assocs (more_assocs x xs) operands =
-      under_assoc x (assoc_count xs) (assocs_on xs (assoc_on x operands)) operands (under_assocs xs (assoc_on x operands))
+      under_assoc x (assoc_count xs) (assocs_on xs (assoc_on x operands)) operands
+      (under_assocs xs (assoc_on x operands))
 
   assoc_kept : (x : Assoc) (n : ℕ) (operands : List Operand) (st : State)
       → drop (twice n) st.operands ≡ assoc_on x operands →
@@ -168,10 +146,13 @@ module _ (k : Over) where
   assocs_kept (more_assocs x xs) token i operands st is =
       ap (λ (it : Candidate). (if k.world.candidate (at k.world token) i then it ∷ [] else [])
       ++ selected k.world token (suc i) (assoc_count xs) st)
-      (assoc_kept x (assoc_count xs) operands st (ap (drop (twice (assoc_count xs))) is ∙ under_assocs xs (assoc_on x operands)))
-      ∙ (ap (λ (all : List Candidate). (if k.world.candidate (at k.world token) i then candidate_in k.world x ∷ [] else []) ++ all)
+      (assoc_kept x (assoc_count xs) operands st (ap (drop (twice (assoc_count xs))) is
+      ∙ under_assocs xs (assoc_on x operands)))
+      ∙ (ap (λ (all : List Candidate).
+      (if k.world.candidate (at k.world token) i then candidate_in k.world x ∷ [] else []) ++ all)
       (assocs_kept xs token (suc i) (assoc_on x operands) st is)
-      ∙ candidate_more (k.world.candidate (at k.world token) i) (candidate_in k.world x) (candidates_of k.world token (suc i) xs))
+      ∙ candidate_more (k.world.candidate (at k.world token) i) (candidate_in k.world x)
+      (candidates_of k.world token (suc i) xs))
 
   -- initialisers: the operands of one as they lie on the stack, the last one first
 
@@ -227,68 +208,23 @@ module _ (k : Over) where
 
   -- blocks that keep the value of their last expression
 
-  abbrev pub with_kept : Bool → SomeExpr → Stacks → Stacks
-  with_kept true e c = with_some_expr e c
-  with_kept false e c = c
-
   abbrev pub with_stmt : Bool → Stmt → Stacks → Stacks
-  with_stmt kept (block opening items closing) c = c
-  with_stmt kept (expr_stmt e semi) c = with_kept kept e c
-  with_stmt kept (attr_stmt attrs semi) c = c
-  with_stmt kept (label name colon attrs s) c = c
-  with_stmt kept (case_stmt keyword e colon s) c = c
-  with_stmt kept (default_stmt keyword colon s) c = c
-  with_stmt kept (if_stmt keyword opening e closing s other) c = c
-  with_stmt kept (switch_stmt keyword opening e closing s) c = c
-  with_stmt kept (while_stmt keyword opening e closing s) c = c
-  with_stmt kept (do_stmt keyword s keyword2 opening e closing semi) c = c
-  with_stmt kept (for_stmt keyword opening start e semi e2 closing s) c = c
-  with_stmt kept (goto_stmt keyword name semi) c = c
-  with_stmt kept (continue_stmt keyword semi) c = c
-  with_stmt kept (break_stmt keyword semi) c = c
-  with_stmt kept (return_stmt keyword e semi) c = c
-  with_stmt kept (asm_stmt keyword words group semi) c = c
-  with_stmt kept (case_range keyword e dots e2 colon s) c = c
-  with_stmt kept (goto_value keyword star e semi) c = c
+  with_stmt kept s c = blocks.with_stmt with_some_expr kept s c
 
   abbrev pub with_block_item : Bool → BlockItem → Stacks → Stacks
-  with_block_item kept (block_decl d) c = c
-  with_block_item kept (block_stmt s) c = with_stmt kept s c
-  with_block_item kept (block_labels keyword names semi) c = c
+  with_block_item kept item c = blocks.with_block_item with_some_expr kept item c
 
   abbrev pub with_items : Bool → BlockItems → Stacks → Stacks
-  with_items kept no_block_items c = c
-  with_items kept (more_block_items item items) c =
-      with_items kept items (with_block_item (kept && is_end items) item c)
+  with_items kept items c = blocks.with_items with_some_expr kept items c
 
   pub no_stmt_kept : (s : Stmt) (c : Stacks) → with_stmt false s c ≡ c
-  no_stmt_kept (block opening items closing) c = refl
-  no_stmt_kept (expr_stmt e semi) c = refl
-  no_stmt_kept (attr_stmt attrs semi) c = refl
-  no_stmt_kept (label name colon attrs s) c = refl
-  no_stmt_kept (case_stmt keyword e colon s) c = refl
-  no_stmt_kept (default_stmt keyword colon s) c = refl
-  no_stmt_kept (if_stmt keyword opening e closing s other) c = refl
-  no_stmt_kept (switch_stmt keyword opening e closing s) c = refl
-  no_stmt_kept (while_stmt keyword opening e closing s) c = refl
-  no_stmt_kept (do_stmt keyword s keyword2 opening e closing semi) c = refl
-  no_stmt_kept (for_stmt keyword opening start e semi e2 closing s) c = refl
-  no_stmt_kept (goto_stmt keyword name semi) c = refl
-  no_stmt_kept (continue_stmt keyword semi) c = refl
-  no_stmt_kept (break_stmt keyword semi) c = refl
-  no_stmt_kept (return_stmt keyword e semi) c = refl
-  no_stmt_kept (asm_stmt keyword words group semi) c = refl
-  no_stmt_kept (case_range keyword e dots e2 colon s) c = refl
-  no_stmt_kept (goto_value keyword star e semi) c = refl
+  no_stmt_kept s c = blocks.no_stmt_kept with_some_expr s c
 
   pub no_item_kept : (item : BlockItem) (c : Stacks) → with_block_item false item c ≡ c
-  no_item_kept (block_decl d) c = refl
-  no_item_kept (block_stmt s) c = no_stmt_kept s c
-  no_item_kept (block_labels keyword names semi) c = refl
+  no_item_kept item c = blocks.no_item_kept with_some_expr item c
 
   pub none_kept : (items : BlockItems) (c : Stacks) → with_items false items c ≡ c
-  none_kept no_block_items c = refl
-  none_kept (more_block_items item items) c = none_kept items (with_block_item false item c) ∙ no_item_kept item c
+  none_kept items c = blocks.none_kept with_some_expr items c
 
   -- the value of a block
   pub value_kept : (token : ℕ) (items : BlockItems) (c : Stacks) →
@@ -306,9 +242,11 @@ module _ (k : Over) where
   value_kept token (more_block_items (block_stmt (if_stmt keyword opening e closing s other)) no_block_items) c = refl
   value_kept token (more_block_items (block_stmt (switch_stmt keyword opening e closing s)) no_block_items) c = refl
   value_kept token (more_block_items (block_stmt (while_stmt keyword opening e closing s)) no_block_items) c = refl
-  value_kept token (more_block_items (block_stmt (do_stmt keyword s keyword2 opening e closing semi)) no_block_items) c =
+  value_kept token
+      (more_block_items (block_stmt (do_stmt keyword s keyword2 opening e closing semi)) no_block_items) c =
       refl
-  value_kept token (more_block_items (block_stmt (for_stmt keyword opening start e semi e2 closing s)) no_block_items) c =
+  value_kept token
+      (more_block_items (block_stmt (for_stmt keyword opening start e semi e2 closing s)) no_block_items) c =
       refl
   value_kept token (more_block_items (block_stmt (goto_stmt keyword name semi)) no_block_items) c = refl
   value_kept token (more_block_items (block_stmt (continue_stmt keyword semi)) no_block_items) c = refl

@@ -29,6 +29,7 @@ use Rattle.row_rules.specs.Vals.{value, own, left_of, is_ref}
 use Rattle.row_rules.specs.Vals as vals
 use Rattle.row_rules.specs.Annotations.{write_bounds}
 use Rattle.name_rules.specs.Uses.{use_at}
+use Rattle.resolve_laws.proofs.NameLaws.Agreeing.{same_name}
 use Rattle.row_rules.specs.Worlds.{World, at, all_lattices, span}
 use Rattle.row_rules.specs.Rows.{index_demand, picked, identified_kind, own_skeleton, RowKind, row_of_name, param_kind, row_at, returned, started, flowing, use_demand, formed_here, taken_fresh, literal_row, cast_demand}
 use Rattle.constraint_rules.specs.Values.{val, pointer_to, candidate_of}
@@ -40,7 +41,7 @@ use Rattle.row_rules.specs.RowSteps.Steps.{run, initialised_by}
 use Rattle.row_rules.specs.RowSteps.OpRows.{naming_row}
 use Rattle.row_laws.proofs.Goes.{Registers, run_append, started_from, Over, unless, Stacks, state, Runs, stay, op_runs, chain, giving, ending, Goes, as_is, nowhere, one, join, from, next, same, reaching, without, group_two, group_three}
 use Rattle.row_laws.proofs.Stacks.{with_assoc, with_assocs, operand_of, with_expr, with_some_expr, with_middle, with_arguments, type_at_words, leaves, leaves_in, leaves_of, with_leaves, with_stmt, with_block_item, with_items, no_stmt_kept, none_kept, value_kept, declaring, token_in, token_in_some, token_of, declared_in, target_named}
-use Rattle.row_laws.proofs.Idle.{either, pieces_idle, tag_idle, same_name, none_said}
+use Rattle.row_laws.proofs.Idle.{either, pieces_idle, tag_idle, none_said}
 use Rattle.row_laws.proofs.Rules.{leaf_row}
 use Rattle.row_laws.proofs.Parts.{prefix_goes, index_goes, arrow_goes, generic_goes, compat_goes, control_goes, IsOwn, IsNamed, nth_naming, further_naming, own_skel_of, param_rows, middle_demand, operation_rows, operator_goes, stmt_expr_goes, call_goes, type_name_goes, literal_goes, braced_goes, scoped, body_goes, quietly_goes, sizeof_goes, offset_goes, param_round, number_behind, params_with_go}
 
@@ -84,7 +85,8 @@ declrs_rows w row (more_init_declrs attrs d asm_label attrs2 init ds) =
 plain_rows : (w : World) (ds : InitDeclrs) → declrs_rows w (λ it. row_of_name) ds ≡ init_declrs_demand w ds
 plain_rows w no_init_declrs = refl
 plain_rows w (more_init_declrs attrs d asm_label attrs2 init ds) =
-    ap (λ (rows : List Constraint). declr_demand w row_of_name None d ++ (some_init_demand w (declared_name d) init ++ rows)) (plain_rows w ds)
+    ap (λ (rows : List Constraint). declr_demand w row_of_name None d
+    ++ (some_init_demand w (declared_name d) init ++ rows)) (plain_rows w ds)
 
 -- where each name has the row of an identifier, the constraints are those of declarations behind a list of these
 old_rows : (w : World) (f : Option Skel) (ds : InitDeclrs)
@@ -168,7 +170,8 @@ module _ (k : Over) where
       (λ c s. state (param_round k r b name i) c s) (λ c s. state (param_round k r b name (suc i)) c s)
       (words_demand k.world ws ++ some_declr_demand k.world row d)
   param_runs r b name i ws d row p q =
-      giving (ending _ (chain (join (without p (one [] (λ y c s. refl) (λ c s. refl))) q).runs (op_runs [] (λ y c s. refl)))
+      giving (ending _
+      (chain (join (without p (one [] (λ y c s. refl) (λ c s. refl))) q).runs (op_runs [] (λ y c s. refl)))
       (λ c s. ap (λ (it : Naming). state (with_round it (is_quiet r) r) c s) (further_naming b name i)))
       (λ y. append-nil (words_demand k.world ws ++ some_declr_demand k.world row d))
 
@@ -182,7 +185,8 @@ module _ (k : Over) where
   unnamed_word_goes (noreturn token) r = nowhere
   unnamed_word_goes (qualifier q) r = nowhere
   unnamed_word_goes (basic word) r = nowhere
-  unnamed_word_goes (struct_type word attrs None body) r = one (formed_here k.world word.token) (λ y c s. refl) (λ c s. refl)
+  unnamed_word_goes (struct_type word attrs None body) r =
+      one (formed_here k.world word.token) (λ y c s. refl) (λ c s. refl)
   unnamed_word_goes (struct_type word attrs (Some tag) body) r = nowhere
   unnamed_word_goes (enum_type e) r = nowhere
   unnamed_word_goes (typedef_name name) r = nowhere
@@ -203,7 +207,8 @@ module _ (k : Over) where
   still xs op st by same is = ap (λ (it : State). it.carried) (run_append k.world xs (op ∷ []) st) ∙ (same ∙ is)
 
   -- an op that notes a pointer
-  noted_by : {r : Rounds} {xs : List Op} {g : Stacks → Stacks} {rows : List Constraint} (op : Op) (c : Stacks) (s : Registers) (by : Skel) →
+  noted_by : {r : Rounds} {xs : List Op} {g : Stacks → Stacks} {rows : List Constraint} (op : Op) (c : Stacks)
+      (s : Registers) (by : Skel) →
       Goes k r xs as_is g rows → ((s : Registers) → (run k.world (state r (g c) s) (op ∷ [])).carried ≡ by) →
       (run k.world (state r c s) (xs ++ op ∷ [])).carried ≡ by
   noted_by {r} {xs} {g} op c s by p is =
@@ -220,7 +225,8 @@ module _ (k : Over) where
       (one [] (λ y c s. refl) (λ c s. refl)))
       (one (demands.rule k.world (initialised_by k.world (token_of it)) (init_value e))
       (λ y c s. ap (unless (is_quiet r)) (leaf_row k r e (initialised_by k.world (token_of it)))) (λ c s. refl)))
-      (ap (λ (t : Option Skel). init_demand k.world (init_value e) ++ demands.rule k.world t (init_value e)) (target_named k.world it))
+      (ap (λ (t : Option Skel). init_demand k.world (init_value e) ++ demands.rule k.world t (init_value e))
+      (target_named k.world it))
 
 -- The trees are well formed: a type's name declares no name, which among parameters would be taken for one.
 module _ (k : Over) (all : List Lexeme) where
@@ -228,7 +234,8 @@ module _ (k : Over) (all : List Lexeme) where
     pub expr_goes : (e : Expr) → IsExpr all e → (r : Rounds) → IsOwn k r → (called aims : Bool) →
         Goes k r (tape_in called aims e) as_is (with_expr k e) (demand_in k.world aims e)
     expr_goes (operation e op token e2) h r o called aims =
-        same (join (next (next (expr_goes e h.0 r o false false) (middle_goes op h.3 r o)) (expr_goes e2 h.1 r o false false))
+        same (join
+        (next (next (expr_goes e h.0 r o false false) (middle_goes op h.3 r o)) (expr_goes e2 h.1 r o false false))
         (operator_goes k r e op token e2)) (operation_rows k.world aims e op token e2)
     expr_goes (cast opening ws d closing e) h r o called aims =
         same (join (next (type_name_goes k r ws (token_in_some d) (type_words_go ws h.1 r o)
@@ -251,7 +258,8 @@ module _ (k : Over) (all : List Lexeme) where
     expr_goes (index e opening e2 closing) h r o called aims =
         same (join (next (expr_goes e h.0 r o false false) (expr_goes e2 h.1 r o false false))
         (index_goes k r e opening e2 closing aims))
-        (group_two (demand k.world e) (demand k.world e2) (index_demand k.world (value (val k.world e)) (value (val k.world e2)) aims
+        (group_two (demand k.world e) (demand k.world e2)
+        (index_demand k.world (value (val k.world e)) (value (val k.world e2)) aims
         (where_is k.world (index e opening e2 closing))))
     expr_goes (call e opening es closing) h r o called aims =
         same (call_goes k r e opening es closing (next (expr_goes e h.0 r o true false) (exprs_go es h.1 r o)))
@@ -260,13 +268,15 @@ module _ (k : Over) (all : List Lexeme) where
     expr_goes (dot e token name) h r o called aims =
         without (expr_goes e h.0 r o false aims) (one [] (λ y c s. refl) (λ c s. refl))
     expr_goes (arrow e token name) h r o called aims =
-        without (join (expr_goes e h.0 r o false false) (arrow_goes k r e token name aims)) (one [] (λ y c s. refl) (λ c s. refl))
+        without (join (expr_goes e h.0 r o false false) (arrow_goes k r e token name aims))
+        (one [] (λ y c s. refl) (λ c s. refl))
     expr_goes (post e token p) h r o called aims =
         join (expr_goes e h.0 r o false false)
         (one (write_bounds k.world (root (val k.world e).skel) (where_is k.world (post e token p))) (λ y c s. refl)
         (λ c s. refl))
     expr_goes (compound opening ws d closing list) h r o called aims =
-        same (literal_goes k r (type_at_words k ws) opening list (type_name_goes k r ws (token_in_some d) (type_words_go ws h.1 r o)
+        same (literal_goes k r (type_at_words k ws) opening list
+        (type_name_goes k r ws (token_in_some d) (type_words_go ws h.1 r o)
         (abstract_goes d h.2 r o row_of_name None))
         (list_goes list h.3 r o))
         (group_two (words_demand k.world ws) (some_declr_demand k.world row_of_name d) (init_list_demand k.world list
@@ -276,14 +286,17 @@ module _ (k : Over) (all : List Lexeme) where
         one (use_demand k.world token (use_at k.world.names.uses (at k.world token))) (λ y c s. refl) (λ c s. refl)
     expr_goes (number_use token) h r o called aims = one [] (λ y c s. refl) (λ c s. refl)
     expr_goes (char_use token) h r o called aims = one [] (λ y c s. refl) (λ c s. refl)
-    expr_goes (text_use texts) h r o called aims = one (formed_here k.world (first_text texts)) (λ y c s. refl) (λ c s. refl)
+    expr_goes (text_use texts) h r o called aims =
+        one (formed_here k.world (first_text texts)) (λ y c s. refl) (λ c s. refl)
     expr_goes (paren opening e closing) h r o called aims =
         without (expr_goes e h r o false aims) (one [] (λ y c s. refl) (λ c s. refl))
     expr_goes (statement_expr opening opening2 items closing closing2) h r o called aims =
-        reaching _ (without (scoped k r (block_items_go items h.0 (entered r) o (in_own k r) true)) (from _ (stmt_expr_goes k r _ opening)))
+        reaching _ (without (scoped k r (block_items_go items h.0 (entered r) o (in_own k r) true))
+        (from _ (stmt_expr_goes k r _ opening)))
         (value_kept k opening items)
     expr_goes (va_arg keyword opening e separator ws d closing) h r o called aims =
-        same (join (next (expr_goes e h.0 r o false false) (type_name_goes k r ws (token_in_some d) (type_words_go ws h.2 r o)
+        same (join
+        (next (expr_goes e h.0 r o false false) (type_name_goes k r ws (token_in_some d) (type_words_go ws h.2 r o)
         (abstract_goes d h.3 r o row_of_name None)))
         (one (taken_fresh k.world keyword (type_of_name k.world ws) (value (val k.world e))
         (where_is k.world (va_arg keyword opening e separator ws d closing))) (λ y c s. refl) (λ c s. refl)))
@@ -319,7 +332,8 @@ module _ (k : Over) (all : List Lexeme) where
         (type_name_goes k (silenced r) ws2 (token_in_some d2) (type_words_go ws2 h.4 (silenced r) o)
         (abstract_goes d2 h.5 (silenced r) o row_of_name None))
     expr_goes (choose keyword opening e separator e2 separator2 e3 closing) h r o called aims =
-        same (join (next (next (quietly_goes k r e (expr_goes e h.0 (silenced r) o false false)) (expr_goes e2 h.1 r o false false))
+        same (join (next
+        (next (quietly_goes k r e (expr_goes e h.0 (silenced r) o false false)) (expr_goes e2 h.1 r o false false))
         (expr_goes e3 h.2 r o false false))
         (one (picked k.world (left_of (candidate_of k.world e2 ∷ candidate_of k.world e3 ∷ [])) (own k.world keyword)
         (span k.world keyword keyword)) (λ y c s. refl) (λ c s. refl)))
@@ -353,7 +367,8 @@ module _ (k : Over) (all : List Lexeme) where
         still k (tape_in false true e) (ops.Expr (exprs.Ext keyword)) (state r c s) (pointer_to k.world e) refl
         (carried_is e h.0 within is r o c s)
     carried_is (dot e token name) h within is r o c s =
-        still k (tape_in false true e) (ops.Expr (exprs.Dot token name.token name.name)) (state r c s) (pointer_to k.world e) refl
+        still k (tape_in false true e) (ops.Expr (exprs.Dot token name.token name.name)) (state r c s)
+        (pointer_to k.world e) refl
         (carried_is e h.0 true is r o c s)
     carried_is (paren opening e closing) h within is r o c s =
         still k (tape_in false true e) (ops.Expr (exprs.Paren opening)) (state r c s) (pointer_to k.world e) refl
@@ -368,7 +383,8 @@ module _ (k : Over) (all : List Lexeme) where
     assoc_goes : (x : Assoc) → IsAssoc all x → (r : Rounds) → IsOwn k r →
         Goes k r (assoc_tape x) as_is (with_assoc k x) (assoc_demand k.world x)
     assoc_goes (typed_assoc ws d colon e) h r o =
-        same (next (type_name_goes k r ws (token_in_some d) (type_words_go ws h.1 r o) (abstract_goes d h.2 r o row_of_name None))
+        same (next
+        (type_name_goes k r ws (token_in_some d) (type_words_go ws h.1 r o) (abstract_goes d h.2 r o row_of_name None))
         (expr_goes e h.3 r o false false))
         (group_two (words_demand k.world ws) (some_declr_demand k.world row_of_name d) (demand k.world e))
     assoc_goes (default_assoc keyword colon e) h r o =
@@ -500,7 +516,8 @@ module _ (k : Over) (all : List Lexeme) where
     struct_item_goes : (item : StructItem) → IsStructItem all item → (r : Rounds) → IsOwn k r → IsNamed k r →
         Goes k r (struct_item_tape item) as_is as_is (struct_item_demand k.world item)
     struct_item_goes (member exts ws ds semi) h r o n =
-        without (join (without (words_go ws h.1 r o false) (one [] (λ y c s. refl) (λ c s. refl))) (members_go ds h.4 r o n ws))
+        without
+        (join (without (words_go ws h.1 r o false) (one [] (λ y c s. refl) (λ c s. refl))) (members_go ds h.4 r o n ws))
         (one [] (λ y c s. refl) (λ c s. refl))
     struct_item_goes (member_semi semi) h r o n = nowhere
     struct_item_goes (member_assert it) h r o n = nowhere
@@ -538,7 +555,8 @@ module _ (k : Over) (all : List Lexeme) where
         → Goes k r (enumerators_tape es) as_is as_is []
     enumerators_go no_enumerators h r o = nowhere
     enumerators_go (more_enumerators name attrs value es) h r o =
-        next (without (some_value_goes value h.1 r o) (one [] (λ y c s. refl) (λ c s. refl))) (enumerators_go es h.2 r o)
+        next (without (some_value_goes value h.1 r o) (one [] (λ y c s. refl) (λ c s. refl)))
+        (enumerators_go es h.2 r o)
 
     -- declarators
 
@@ -551,7 +569,8 @@ module _ (k : Over) (all : List Lexeme) where
     contents_go (declr_name token it) h r o row is own declared =
         one (row_at k.world row token)
         (λ y c s. ap (λ (it : RowKind). unless (is_quiet r) (row_at k.world it token)) (is y)) (λ c s. refl)
-    contents_go (declr_paren opening attrs d closing) h r o row is own declared = contents_go d h.1 r o row is own declared
+    contents_go (declr_paren opening attrs d closing) h r o row is own declared =
+        contents_go d h.1 r o row is own declared
     contents_go (array d opening words size closing) h r o row is own declared =
         without (contents_go d h.0 r o row is own declared) (from _ (some_size_goes size h.4 r o))
     contents_go (params d opening ps dots closing) h r o row is own declared =
@@ -602,7 +621,8 @@ module _ (k : Over) (all : List Lexeme) where
         giving (chain (param_runs k r b name i ws d (param_kind own bare i)
         (words_go ws h.1 (param_round k r b name i) o false)
         (some_declr_goes d h.3 (param_round k r b name i) o (param_kind own bare i)
-        (λ y. row_of_all k (param_round k r b name i) (param_kind own bare i) (rule_tokens.some_declared_name d) (rows i)) None))
+        (λ y. row_of_all k (param_round k r b name i) (param_kind own bare i) (rule_tokens.some_declared_name d)
+        (rows i)) None))
         (params_go ps h.6 r o b name own bare (suc i) rows))
         (λ y. group_two (words_demand k.world ws) (some_declr_demand k.world (param_kind own bare i) d)
         (params_demand k.world own bare (suc i) ps))
@@ -632,7 +652,8 @@ module _ (k : Over) (all : List Lexeme) where
 
     index_tape_goes : (d : Desig) → IsDesig all d → (r : Rounds) → IsOwn k r → Goes k r (index_tape d) as_is as_is []
     index_tape_goes (member_desig before name) h r o = nowhere
-    index_tape_goes (index_desig opening e closing) h r o = quietly_goes k r e (expr_goes e h.0 (silenced r) o false false)
+    index_tape_goes (index_desig opening e closing) h r o =
+        quietly_goes k r e (expr_goes e h.0 (silenced r) o false false)
     index_tape_goes (range_desig opening e dots e2 closing) h r o =
         next (quietly_goes k r e (expr_goes e h.0 (silenced r) o false false))
         (quietly_goes k r e2 (expr_goes e2 h.2 (silenced r) o false false))
@@ -663,7 +684,8 @@ module _ (k : Over) (all : List Lexeme) where
         (init_declrs_demand k.world ds)
     init_declrs_go no_init_declrs h r o n declared = nowhere
     init_declrs_go (more_init_declrs attrs d asm_label attrs2 i ds) h r o n declared =
-        same (join (join (without (without (contents_go d h.1 r o row_of_name (named_row k r n (declared_name d)) false declared)
+        same (join
+        (join (without (without (contents_go d h.1 r o row_of_name (named_row k r n (declared_name d)) false declared)
         (from _ (pieces_idle k r d))) (one [] (λ y c s. refl) (λ c s. refl)))
         (some_init_goes i h.5 r o (declared_name d))) (init_declrs_go ds h.6 r o n (token_in d)))
         (group_two (declr_demand k.world row_of_name None d) (some_init_demand k.world (declared_name d) i)
@@ -675,15 +697,18 @@ module _ (k : Over) (all : List Lexeme) where
         (row : Option Named → RowKind) → ((it : Option Named) → IsRow k r (row it) it) → (declared : Option ℕ) →
         Goes k r (auto_declrs_tape semi ds) (declaring None declared) (declaring None (declared_in ds declared))
         (declrs_rows k.world row ds)
-    auto_goes semi ws (more_init_declrs attrs (declr_name token name) None attrs2 (some_init equal (init_value e)) no_init_declrs) it h r o
+    auto_goes semi ws (more_init_declrs attrs (declr_name token name) None attrs2
+        (some_init equal (init_value e)) no_init_declrs) it h r o
         row is declared =
         same (join (join (one (row_at k.world (row (Some (record { token = token; name = name }))) token)
         (λ y c s. ap (λ (it : RowKind). unless (is_quiet r) (row_at k.world it token))
         (is (Some (record { token = token; name = name })) y)) (λ c s. refl))
-        (auto_init_goes k e r (expr_goes e h.5.0 r o false false) equal semi (Some (record { token = token; name = name })) declared)) nowhere)
+        (auto_init_goes k e r (expr_goes e h.5.0 r o false false) equal semi
+        (Some (record { token = token; name = name })) declared)) nowhere)
         (group_two (row_at k.world (row (Some (record { token = token; name = name }))) token)
         (some_init_demand k.world (Some (record { token = token; name = name })) (some_init equal (init_value e))) [])
-    auto_goes semi ws (more_init_declrs attrs (base_name token) None attrs2 (some_init equal (init_value e)) no_init_declrs) it h r o
+    auto_goes semi ws
+        (more_init_declrs attrs (base_name token) None attrs2 (some_init equal (init_value e)) no_init_declrs) it h r o
         row is declared =
         same (join (join nowhere
         (auto_init_goes k e r (expr_goes e h.5.0 r o false false) equal semi None declared)) nowhere)
@@ -695,7 +720,8 @@ module _ (k : Over) (all : List Lexeme) where
     declaration_goes (declaration exts ws ds semi) h r o n =
         without (join (without (words_go ws h.1 r o (declares_tag ws ds)) (one [] (λ y c s. refl) (λ c s. refl)))
         (either k r (are_auto ws ds)
-        (λ is. same (auto_goes semi ws ds (auto_is ws ds is h.4) h.3 r o (λ it. row_of_name) (named_row k r n) None) (plain_rows k.world ds))
+        (λ is. same (auto_goes semi ws ds (auto_is ws ds is h.4) h.3 r o (λ it. row_of_name) (named_row k r n) None)
+        (plain_rows k.world ds))
         (λ is. init_declrs_go ds h.3 r o n None))) (one [] (λ y c s. refl) (λ c s. refl))
 
     pub decl_goes : (d : Decl) → IsDecl all d → (r : Rounds) → IsOwn k r → IsNamed k r →
@@ -743,7 +769,8 @@ module _ (k : Over) (all : List Lexeme) where
         scoped k r (next (condition k e (expr_goes e h.0 (entered r) o false false))
         (inner k (entered r) s (stmt_goes s h.1 (entered (entered r)) o (in_own k (entered r)) false)))
     stmt_goes (do_stmt keyword s keyword2 opening e closing semi) h r o n kept =
-        scoped k r (without (next (inner k (entered r) s (stmt_goes s h.0 (entered (entered r)) o (in_own k (entered r)) false))
+        scoped k r
+        (without (next (inner k (entered r) s (stmt_goes s h.0 (entered (entered r)) o (in_own k (entered r)) false))
         (expr_goes e h.1 (entered r) o false false)) (one [] (λ y c s. refl) (λ c s. refl)))
     stmt_goes (for_stmt keyword opening start e semi e2 closing s) h r o n kept =
         same (scoped k r (next (next (next (for_start_goes start h.0 (entered r) o (in_own k r))
@@ -785,8 +812,8 @@ module _ (k : Over) (all : List Lexeme) where
       (old_declrs_demand k.world f ds)
   old_declrs_go no_init_declrs h r o f is declared = nowhere
   old_declrs_go (more_init_declrs attrs d asm_label attrs2 i ds) h r o f is declared =
-      same (join (join (without (without (contents_go d h.1 r o (identified_kind k.world f (declared_name d)) (is (declared_name d))
-      false declared) (from _ (pieces_idle k r d))) (one [] (λ y c s. refl) (λ c s. refl)))
+      same (join (join (without (without (contents_go d h.1 r o (identified_kind k.world f (declared_name d))
+      (is (declared_name d)) false declared) (from _ (pieces_idle k r d))) (one [] (λ y c s. refl) (λ c s. refl)))
       (some_init_goes i h.5 r o (declared_name d))) (old_declrs_go ds h.6 r o f is (token_in d)))
       (group_two (declr_demand k.world (identified_kind k.world f (declared_name d)) None d)
       (some_init_demand k.world (declared_name d) i) (old_declrs_demand k.world f ds))
@@ -797,7 +824,8 @@ module _ (k : Over) (all : List Lexeme) where
   old_declaration_goes (declaration exts ws ds semi) h r o f is =
       without (join (without (words_go ws h.1 r o (declares_tag ws ds)) (one [] (λ y c s. refl) (λ c s. refl)))
       (either k r (are_auto ws ds)
-      (λ auto. same (auto_goes semi ws ds (auto_is ws ds auto h.4) h.3 r o (identified_kind k.world f) is None) (old_rows k.world f ds))
+      (λ auto. same (auto_goes semi ws ds (auto_is ws ds auto h.4) h.3 r o (identified_kind k.world f) is None)
+      (old_rows k.world f ds))
       (λ auto. old_declrs_go ds h.3 r o f is None))) (one [] (λ y c s. refl) (λ c s. refl))
 
   old_declarations_go : (ds : List Declaration) → All (IsDeclaration all) ds → (r : Rounds) → IsOwn k r
@@ -850,10 +878,12 @@ module _ (k : Over) (all : List Lexeme) where
             ++ old_declarations_demand k.world (own_skeleton k.world (declared_name d)) ds)
             ∙ ap (λ (rows : List Constraint). rows
             ++ old_declarations_demand k.world (own_skeleton k.world (declared_name d)) ds)
-            (append-nil (declr_demand k.world row_of_name None d ++ []) ∙ append-nil (declr_demand k.world row_of_name None d)));
+            (append-nil (declr_demand k.world row_of_name None d ++ [])
+            ∙ append-nil (declr_demand k.world row_of_name None d)));
       }
   old_contents_go ds hs (pointer star words d) h is r o n declared = old_contents_go ds hs d h.1 is r o n declared
-  old_contents_go ds hs (declr_paren opening attrs d closing) h is r o n declared = old_contents_go ds hs d h.1 is r o n declared
+  old_contents_go ds hs (declr_paren opening attrs d closing) h is r o n declared =
+      old_contents_go ds hs d h.1 is r o n declared
   old_contents_go ds hs (array d opening words size closing) h is r o n declared =
       without (old_contents_go ds hs d h.0 is r o n declared) (from _ (some_size_goes size h.4 r o))
   old_contents_go ds hs (params d opening ps dots closing) h is r o n declared =

@@ -86,7 +86,8 @@ module _ (w : World) (asked : Bool) (at_file : IsOwn (over w asked) (file false)
   function_goes : (ws : SpecWords) (d : Declr) (items : BlockItems) → AreBlockItems all items
       → {head : List Op} (rows : List Constraint) →
       Goes (over w asked) (file false) head as_is (declaring None (token_in d)) (words_demand w ws ++ rows) →
-      Goes (over w asked) (file false) (head ++ stmt stmts.FunctionBody ++ block_items_tape false items ++ stmt stmts.FunctionEnd
+      Goes (over w asked) (file false)
+      (head ++ stmt stmts.FunctionBody ++ block_items_tape false items ++ stmt stmts.FunctionEnd
       ++ declr declrs.DeclarationEnd) as_is as_is
       (words_demand w ws ++ (rows ++ block_items_demand (inside (own_skeleton w (declared_name d)) w) items))
   function_goes ws d items h rows p =
@@ -145,7 +146,8 @@ found_among : (p : Program) (sources : List Source) → All IsSound sources
 found_among p [] h = refl
 found_among p (it ∷ sources) h =
     let sound : IsSound it = All-head IsSound it sources h in
-    ap (λ (rows : List Constraint). rows ++ rows_among p sources) (rows_are_found (world_of p it) sound.0 it.items sound.1 refl)
+    ap (λ (rows : List Constraint). rows ++ rows_among p sources)
+    (rows_are_found (world_of p it) sound.0 it.items sound.1 refl)
     ∙ ap (λ (rows : List Constraint). items_demand (world_of p it) it.items ++ rows)
     (found_among p sources (All-tail IsSound it sources h))
 

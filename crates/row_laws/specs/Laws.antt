@@ -23,11 +23,11 @@ abbrev pub with_registers : State → State → State
 with_registers it st = record st { literal = it.literal; carried = it.carried }
 
 -- Where no argument and no item of an initialiser is being taken, the tape of a well-formed expression leaves one
--- operand
--- more: its skeleton, and whether it is a zero.
+-- operand more: its skeleton, and whether it is a zero.
 abbrev pub ValuesAreLeft : Type 0
 ValuesAreLeft =
-    (w : World) (all : List Lexeme) (e : Expr) (called : Bool) (st : State) → IsExpr all e → st.leaves ≡ [] → st.passed ≡ 0
+    (w : World) (all : List Lexeme) (e : Expr) (called : Bool) (st : State) → IsExpr all e → st.leaves ≡ []
+    → st.passed ≡ 0
     → run w st (expr_tape called e) ≡
     with_registers (run w st (expr_tape called e))
     (operand_put 0 (expression (val w e) (is_zero w.spelling w.names e)) st)

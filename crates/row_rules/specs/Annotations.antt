@@ -49,8 +49,10 @@ is_reference_word w p = is_reference_mark w (w.mark p)
 abbrev pub words_of_level : World → Bool → Words → Words
 words_of_level w true [] = []
 words_of_level w false [] = []
-words_of_level w true (p ∷ ps) = if is_reference_word w p then p ∷ words_of_level w true ps else words_of_level w true ps
-words_of_level w false (p ∷ ps) = if is_reference_word w p then words_of_level w false ps else p ∷ words_of_level w false ps
+words_of_level w true (p ∷ ps) =
+    if is_reference_word w p then p ∷ words_of_level w true ps else words_of_level w true ps
+words_of_level w false (p ∷ ps) =
+    if is_reference_word w p then words_of_level w false ps else p ∷ words_of_level w false ps
 
 -- in the order of the text
 
@@ -108,19 +110,22 @@ further (flat v k) = None
 further (ref v s) = None
 
 -- The annotations of a skeleton, by the annotated constructor in pre-order and then by the word. A word of values
--- annotates
--- the constructor that it is written on; a word of references the pointer around that, where there is one. The words
--- before an
--- ellipsis annotate its variable, at either level.
+-- annotates the constructor that it is written on; a word of references the pointer around that, where there is one.
+-- The words before an ellipsis annotate its variable, at either level.
 abbrev mutual
+  -- the annotation words of a type, each with the variable that it is written on
   pub annotated : World → CType → Skel → List Annotation
   annotated w (base ws) s = annotations_at (root s) (sorted (words_of_level w false ws))
   annotated w (void ws) s = annotations_at (root s) (sorted (words_of_level w false ws))
   annotated w (struct ws n) s = annotations_at (root s) (sorted (words_of_level w false ws))
-  annotated w (pointer ws t) s = annotations_at (root s) (sorted (words_of_level w false ws ++ words_of_level w true (words_of t))) ++ annotated w t (inner s)
+  annotated w (pointer ws t) s =
+      annotations_at (root s) (sorted (words_of_level w false ws ++ words_of_level w true (words_of t)))
+      ++ annotated w t (inner s)
   annotated w (function ws ps r e) s = annotations_at (root s) (sorted (words_of_level w false ws))
-      ++ (annotated_params w ps (parameters s) ++ (annotated w r (outcome s) ++ some_annotations_at (further s) (sorted (words_or_none e))))
+      ++ (annotated_params w ps (parameters s)
+      ++ (annotated w r (outcome s) ++ some_annotations_at (further s) (sorted (words_or_none e))))
 
+  -- those of parameters
   pub annotated_params : World → CTypes → Skels → List Annotation
   annotated_params w no_types ss = []
   annotated_params w (more_types t ts) no_skels = []
@@ -162,12 +167,14 @@ annotating w t s = annotation_constraints w (annotated w t s)
 abbrev pub bounds_of : (Entry → Bool) → ℕ → Span → ℕ → ℕ → List Entry → List Constraint
 bounds_of has v where_ lattice n [] = []
 bounds_of has v where_ lattice n (entry ∷ entries) =
-    (if has entry then constraint (2 ^ lattice) where_ (Bound v lattice n) ∷ [] else []) ++ bounds_of has v where_ lattice (suc n) entries
+    (if has entry then constraint (2 ^ lattice) where_ (Bound v lattice n) ∷ [] else [])
+    ++ bounds_of has v where_ lattice (suc n) entries
 
 -- bounds of a variable: the elements with an attribute of these lattices, which have the numbers from n on
 abbrev pub bounds_from : (Entry → Bool) → ℕ → Span → ℕ → List LatticeView → List Constraint
 bounds_from has v where_ n [] = []
-bounds_from has v where_ n (view ∷ views) = bounds_of has v where_ n 0 view.entries ++ bounds_from has v where_ (suc n) views
+bounds_from has v where_ n (view ∷ views) =
+    bounds_of has v where_ n 0 view.entries ++ bounds_from has v where_ (suc n) views
 
 -- what is written to is bounded by each element that says so
 abbrev pub write_bounds : World → ℕ → Span → List Constraint
@@ -230,6 +237,7 @@ names_lattice w lattice (p ∷ ps) = is_of lattice (w.mark p) || names_lattice w
 
 -- the words that are written on a type and on its parts
 abbrev mutual
+  -- all annotation words of a type
   pub all_words : CType → Words
   all_words (base ws) = ws
   all_words (void ws) = ws
@@ -237,6 +245,7 @@ abbrev mutual
   all_words (pointer ws t) = ws ++ all_words t
   all_words (function ws ps r e) = ws ++ (words_of_all ps ++ (all_words r ++ words_or_none e))
 
+  -- all annotation words of parameters
   pub words_of_all : CTypes → Words
   words_of_all no_types = []
   words_of_all (more_types t ts) = all_words t ++ words_of_all ts

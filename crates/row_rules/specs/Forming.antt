@@ -1,6 +1,6 @@
 -- What passes inside a skeleton, in the lattices that say so: between a pointer and what it points to, and from a
--- struct into its
--- members. This is the project's own; of Foster et al. 2006 is only that such flows are constraints like any other.
+-- struct into its members. This is the project's own; of Foster et al. 2006 is only that such flows are constraints
+-- like any other.
 use Rattle.std.specs.Prelude.{ℕ, suc, ◌+◌, ◌^◌, nat_eq, Bool, List, [], ◌∷◌, ◌++◌, if◌then◌else◌}
 use Rattle.qual_base.specs.declared.places.Span.{Span}
 use Rattle.lattice_core.specs.declared.Flows.{Flows}
@@ -23,8 +23,7 @@ lattices_from says n [] = 0
 lattices_from says n (view ∷ views) = (if says view.flows then 2 ^ n else 0) + lattices_from says (suc n) views
 
 -- In which lattices what a pointer points to passes into the pointer, the pointer into what it points to, and a struct
--- into its
--- members.
+-- into its members.
 pub record Ways : Type 0 where
   pub up : ℕ
   pub down : ℕ
@@ -53,7 +52,8 @@ into_member ways where_ n s = if is_nothing s then [] else in_some ways.field wh
 -- what passes from a struct into its own members, in their order
 abbrev pub into_members : Ways → List Numbered → Span → ℕ → List Own → List Constraint
 into_members ways skeletons where_ n [] = []
-into_members ways skeletons where_ n (it ∷ own) = into_member ways where_ n (skeleton_among skeletons it.at) ++ into_members ways skeletons where_ n own
+into_members ways skeletons where_ n (it ∷ own) =
+    into_member ways where_ n (skeleton_among skeletons it.at) ++ into_members ways skeletons where_ n own
 
 -- what passes from a struct into its members: without a body it has none, one whose body comes later has them
 abbrev pub into_fields : Ways → List Numbered → List Aggregate → Span → ℕ → Kind → List Constraint
@@ -63,17 +63,21 @@ into_fields ways skeletons all where_ n kinds.Void = []
 into_fields ways skeletons all where_ n kinds.Nothing = []
 
 -- By its constructors in pre-order. The skeleton of a member is that of its own declaration, whose row goes into it, so
--- nothing goes
--- round where a struct points to itself.
+-- nothing goes round where a struct points to itself.
 abbrev mutual
+  -- the constraints that a skeleton has by itself: how qualifiers pass through its pointers and members
   pub formed_in : Ways → List Numbered → List Aggregate → Span → Skel → List Constraint
   formed_in ways skeletons all where_ (flat v k) = into_fields ways skeletons all where_ v k
-  formed_in ways skeletons all where_ (ref v s) = pointing ways where_ v (root s) ++ formed_in ways skeletons all where_ s
-  formed_in ways skeletons all where_ (fun v ps r e) = all_formed_in ways skeletons all where_ ps ++ formed_in ways skeletons all where_ r
+  formed_in ways skeletons all where_ (ref v s) =
+      pointing ways where_ v (root s) ++ formed_in ways skeletons all where_ s
+  formed_in ways skeletons all where_ (fun v ps r e) =
+      all_formed_in ways skeletons all where_ ps ++ formed_in ways skeletons all where_ r
 
+  -- those of parameters
   pub all_formed_in : Ways → List Numbered → List Aggregate → Span → Skels → List Constraint
   all_formed_in ways skeletons all where_ no_skels = []
-  all_formed_in ways skeletons all where_ (more_skels s ss) = formed_in ways skeletons all where_ s ++ all_formed_in ways skeletons all where_ ss
+  all_formed_in ways skeletons all where_ (more_skels s ss) =
+      formed_in ways skeletons all where_ s ++ all_formed_in ways skeletons all where_ ss
 
 -- what passes inside of a skeleton; with this each row begins that makes one
 abbrev pub formed : World → Span → Skel → List Constraint

@@ -1,6 +1,5 @@
 -- What the index words of a prelude give: what is marked with a set of numbers flows into each other node of its
--- declaration whose
--- set contains that one.
+-- declaration whose set contains that one.
 use Rattle.std.specs.Prelude.{ℕ, suc, ◌+◌, ◌^◌, nat_eq, Bool, true, false, ◌&&◌, ◌||◌, List, [], ◌∷◌, ◌++◌, slice_get, Option, None, Some, if◌then◌else◌}
 use Rattle.lattice_core.specs.View.{LatticeView}
 use Rattle.flow_graph.specs.declared.constraint.Link.TheVariants.{Le}
@@ -59,9 +58,9 @@ some_indexed_at w None ps = []
 some_indexed_at w (Some v) ps = indexed_at w v ps
 
 -- The nodes of a skeleton with index words, in pre-order: each word marks the constructor that it is written on, and
--- those before
--- an ellipsis its variable.
+-- those before an ellipsis its variable.
 abbrev mutual
+  -- the index words of a type, each with the variable that it is written on
   pub indexed : World → CType → Skel → List Indexed
   indexed w (base ws) s = indexed_at w (root s) ws
   indexed w (void ws) s = indexed_at w (root s) ws
@@ -69,8 +68,10 @@ abbrev mutual
   indexed w (pointer ws t) s = indexed_at w (root s) ws ++ indexed w t (inner s)
   indexed w (function ws ps r e) s =
       indexed_at w (root s) ws
-      ++ (indexed_params w ps (parameters s) ++ (indexed w r (outcome s) ++ some_indexed_at w (further s) (words_or_none e)))
+      ++ (indexed_params w ps (parameters s)
+      ++ (indexed w r (outcome s) ++ some_indexed_at w (further s) (words_or_none e)))
 
+  -- those of parameters
   pub indexed_params : World → CTypes → Skels → List Indexed
   indexed_params w no_types ss = []
   indexed_params w (more_types t ts) no_skels = []
@@ -97,7 +98,8 @@ is_below one other = (if nat_eq one.variable other.variable then false else true
 abbrev pub below_each : World → Indexed → List Indexed → List Constraint
 below_each w it [] = []
 below_each w it (other ∷ others) =
-    (if is_below it other then constraint (value_lattices w) (word_span it.word) (Le it.variable other.variable) ∷ [] else [])
+    (if is_below it other
+    then constraint (value_lattices w) (word_span it.word) (Le it.variable other.variable) ∷ [] else [])
     ++ below_each w it others
 
 -- each of the first nodes flows into each of all that contain it

@@ -22,7 +22,8 @@ use Rattle.row_rules.specs.Worlds.{World, all_lattices, at, constraint, constrai
 
 -- An expression's value flows into a skeleton: nothing where it is a zero, or where either is void or is no skeleton.
 abbrev pub flowing : Bool → Skel → Skel → ℕ → Span → List Constraint
-flowing is_zero a t lattices where_ = if is_zero || (is_empty a || is_empty t) then [] else constraints lattices where_ (flow Flow true a t)
+flowing is_zero a t lattices where_ =
+    if is_zero || (is_empty a || is_empty t) then [] else constraints lattices where_ (flow Flow true a t)
 
 -- what is dereferenced is bounded, but where it points to a function
 abbrev pub dereferenced : World → Skel → Bool → Span → List Constraint
@@ -37,7 +38,8 @@ is_plus_or_minus p = false
 -- an assignment: `+=` and `-=` move a pointer, and nothing flows into it
 abbrev pub assigned : World → Punct → Bool → Skel → Skel → Span → List Constraint
 assigned w p is_zero a b where_ = write_bounds w (root a) where_
-    ++ (if is_plus_or_minus p && is_ref (contents a) then [] else flowing is_zero b (contents a) (all_lattices w) where_)
+    ++ (if is_plus_or_minus p && is_ref (contents a) then []
+    else flowing is_zero b (contents a) (all_lattices w) where_)
 
 -- whether an operator gives a truth value: `||`, `&&` and comparisons
 abbrev pub is_logical : Punct → Bool
@@ -69,7 +71,8 @@ chosen w first_is_zero last_is_zero a b t where_ =
 -- what is left of the candidates of a pick flows into its fresh value
 abbrev pub picking : World → List Candidate → Skel → Span → List Constraint
 picking w [] t where_ = []
-picking w (it ∷ others) t where_ = flowing it.is_zero (value it.val) t (all_lattices w) where_ ++ picking w others t where_
+picking w (it ∷ others) t where_ =
+    flowing it.is_zero (value it.val) t (all_lattices w) where_ ++ picking w others t where_
 
 -- the row of a pick: where several candidates are left, its value is fresh
 abbrev pub picked : World → List Candidate → Skel → Span → List Constraint
@@ -83,8 +86,7 @@ index_demand w a b aims where_ =
     if is_vector_index w.spelling.wide a b then [] else dereferenced w (if is_ref a then a else b) aims where_
 
 -- A pointer that `&` makes to a place that was come to by a pointer: it points at the place, and is at least that
--- pointer in the
--- lattices that bound accesses.
+-- pointer in the lattices that bound accesses.
 abbrev pub carrying : World → Skel → Skel → Span → List Constraint
 carrying w by t where_ =
     if is_nothing by || is_nothing t then []
@@ -117,7 +119,8 @@ formed_here w token = formed w (span w token token) (own w token)
 
 -- a function's name: its signature, crossed with the instance here
 abbrev pub crossed : World → ℕ → Place → List Constraint
-crossed w token p = in_all w (span w token token) (cross (site_number w (at w token)) (skeleton w p) (skeleton w (at w token)))
+crossed w token p =
+    in_all w (span w token token) (cross (site_number w (at w token)) (skeleton w p) (skeleton w (at w token)))
 
 -- the row of a use of a declared name: only that of a function gives something
 abbrev pub instance : World → ℕ → Place → Role → List Constraint
@@ -148,7 +151,8 @@ annotating_some w (Some t) s = annotating w t s
 
 -- what the type of a cast says, and the operand flows in the lattices of which it has no word
 abbrev pub casting : World → CType → Bool → Skel → Skel → Span → List Constraint
-casting w type is_zero a t where_ = annotating w type t ++ (if nat_eq (uncut w type) 0 then [] else flowing is_zero a t (uncut w type) where_)
+casting w type is_zero a t where_ =
+    annotating w type t ++ (if nat_eq (uncut w type) 0 then [] else flowing is_zero a t (uncut w type) where_)
 
 -- the row of a cast, where the type that it names is known
 abbrev pub cast_demand : World → Option CType → Bool → Skel → Skel → Span → List Constraint
@@ -204,7 +208,8 @@ some_declared_row w (Some d) = declared_row w d d.role
 abbrev pub into_param : World → Option Skel → Declared → List Constraint
 into_param w None d = []
 into_param w (Some s) d =
-    if is_some_function (declared_at w.names.declared d.first) || is_nothing (contents (skeleton w d.at)) then [] else in_all w (word_span d.at) (flow Flow true s (contents (skeleton w d.at)))
+    if is_some_function (declared_at w.names.declared d.first) || is_nothing (contents (skeleton w d.at)) then []
+    else in_all w (word_span d.at) (flow Flow true s (contents (skeleton w d.at)))
 
 -- a parameter's annotations, and what its function is given flows into it
 abbrev pub plain_param_row : World → Skel → ℕ → Declared → List Constraint
@@ -216,8 +221,7 @@ param_row w own i None = []
 param_row w own i (Some d) = formed_name w d ++ plain_param_row w own i d
 
 -- which row the name of a declarator has: none in a type's name and in a prototype, that of a name, or that of a
--- parameter of the
--- function of this skeleton
+-- parameter of the function of this skeleton
 pub data RowKind : Type 0 where
   no_row : RowKind
   row_of_name : RowKind

@@ -31,12 +31,14 @@ AreDifferent (p ∷ places) = (has_place places p ≡ false) × AreDifferent pla
 
 -- whether a declaration is the first one of its thing, and that is a function or has a body
 abbrev pub is_first_function : List Place → Declared → Bool
-is_first_function bodies d = if is_place d.at d.first then (if is_function_role d.role then true else has_place bodies d.at) else false
+is_first_function bodies d =
+    if is_place d.at d.first then (if is_function_role d.role then true else has_place bodies d.at) else false
 
 -- where functions and what has a body were first declared in each unit, in the order of declarations
 abbrev pub functions_among : List Place → List Declared → List Place
 functions_among bodies [] = []
-functions_among bodies (d ∷ ds) = if is_first_function bodies d then d.at ∷ functions_among bodies ds else functions_among bodies ds
+functions_among bodies (d ∷ ds) =
+    if is_first_function bodies d then d.at ∷ functions_among bodies ds else functions_among bodies ds
 
 -- where the function of a body was first declared
 abbrev pub first_place : Bodied → Place
@@ -56,7 +58,12 @@ owner_by functions (Some p) = Function (number_among 0 functions p)
 -- the call site at a skeleton that is an instance of a function
 abbrev pub site_of : List Place → Start → Option Place → List Site
 site_of functions start None = []
-site_of functions start (Some f) = record { unit = start.at.0; token = start.at.1; target = number_among 0 functions f; owner = owner_by functions start.owner } ∷ []
+site_of functions start (Some f) = record {
+  unit = start.at.0;
+  token = start.at.1;
+  target = number_among 0 functions f;
+  owner = owner_by functions start.owner;
+} ∷ []
 
 -- the call sites among skeletons
 abbrev pub sites_among : List Place → List Start → List Site
@@ -76,4 +83,5 @@ site_places (start ∷ starts) = place_of start start.calls ++ site_places start
 -- the owner of each variable, of skeletons one behind the other
 abbrev pub owners_among : List Place → List Start → List Owner
 owners_among functions [] = []
-owners_among functions (start ∷ starts) = replicate (size start.type) (owner_by functions start.owner) ++ owners_among functions starts
+owners_among functions (start ∷ starts) =
+    replicate (size start.type) (owner_by functions start.owner) ++ owners_among functions starts

@@ -9,9 +9,8 @@ use Rattle.name_rules.specs.Linking.{link_of}
 use Rattle.name_rules.specs.Values.{is_pointer, is_additive, undeclared_function, Shape, address, Candidate, Association, selected, is_of_type}
 
 -- A skeleton: where it begins, its type, the function that its variables belong to. At a function's name in an
--- expression it is
--- an instance of the function that was first declared at `calls`: a call site. Functions go by their links, the same in
--- all units.
+-- expression it is an instance of the function that was first declared at `calls`: a call site. Functions go by their
+-- links, the same in all units.
 pub record Start : Type 0 where
   pub at : Place
   pub type : CType
@@ -34,7 +33,8 @@ quiet a = record a { is_quiet = true }
 
 -- a fresh skeleton of a type at a token, where something may be fresh
 abbrev pub fresh : Around → ℕ → CType → List Start
-fresh a token t = if a.is_quiet then [] else record { at = place a.spelling token; type = t; owner = a.enclosing; calls = None } ∷ []
+fresh a token t =
+    if a.is_quiet then [] else record { at = place a.spelling token; type = t; owner = a.enclosing; calls = None } ∷ []
 
 -- a fresh skeleton of a type at a token, where the type is known
 abbrev pub some_fresh : Around → ℕ → Option CType → List Start
@@ -61,10 +61,10 @@ owned_there None f = None
 owned_there (Some p) f = f
 
 -- The function that a declared name belongs to, by its link: what was first declared as a function in its unit to that,
--- other names to
--- the function around them, and what is nobody's to none.
+-- other names to the function around them, and what is nobody's to none.
 abbrev pub owner_there : Names → Option Place → Declared → Option Place
-owner_there s f d = owned_there d.owner (if is_some_function (declared_at s.declared d.first) then Some (link_of s d.first) else f)
+owner_there s f d =
+    owned_there d.owner (if is_some_function (declared_at s.declared d.first) then Some (link_of s d.first) else f)
 
 -- a name's skeleton is a place of its type
 abbrev pub named_start : Names → Option Place → Declared → List Start
@@ -90,7 +90,10 @@ name_start a token = some_declared_start a.names a.enclosing (declared_at a.name
 
 -- a name in an expression: a function's name is an instance of it
 abbrev pub instance : Around → ℕ → Place → CType → List Start
-instance a token at t = if a.is_quiet then [] else record { at = place a.spelling token; type = pointer [] t; owner = a.enclosing; calls = Some (link_of a.names at) } ∷ []
+instance a token at t =
+    if a.is_quiet then [] else
+    record { at = place a.spelling token; type = pointer [] t; owner = a.enclosing; calls = Some (link_of a.names at) }
+    ∷ []
 
 -- what begins at a use of a declared name: the instance of a function, or the value of an enumerator
 abbrev pub use_by_role : Around → ℕ → Declared → Role → List Start
@@ -173,8 +176,7 @@ declared_function u s None = None
 declared_function u s (Some it) = first_of s (declared_at s.declared (place u it.token))
 
 -- what an operator before its operand begins; `carries`: the pointer that `&` makes is to carry the one by which its
--- operand came to its
--- place
+-- operand came to its place
 abbrev pub prefix_starts : Punct → Bool → Around → ℕ → Shape → List Start
 prefix_starts signs.Ampersand carries a token e = fresh_where carries (some_fresh a token (address e))
 prefix_starts sign carries a token e = fresh_where (is_fresh_prefix sign) (fresh a token (base []))
@@ -185,8 +187,7 @@ selected_by None all = []
 selected_by (Some t) all = selected t all
 
 -- Which associations of a selection are candidates: those of the type, or all where there are none. Without a type of
--- the control there
--- are none of the type.
+-- the control there are none of the type.
 abbrev pub candidate_flags : Bool → Option CType → List Association → List Bool
 candidate_flags has_some t [] = []
 candidate_flags has_some t (it ∷ others) = (not has_some || is_of_type t it.type) ∷ candidate_flags has_some t others
@@ -199,4 +200,5 @@ pub record Selection : Type 0 where
 -- the flag of a number, of the first selection at a place
 abbrev pub flag_among : List Selection → Place → ℕ → Bool
 flag_among [] p n = false
-flag_among (it ∷ others) p n = if is_place it.at p then unwrap_or (slice_get it.flags n) false else flag_among others p n
+flag_among (it ∷ others) p n =
+    if is_place it.at p then unwrap_or (slice_get it.flags n) false else flag_among others p n

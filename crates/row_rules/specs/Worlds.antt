@@ -1,6 +1,5 @@
 -- What the constraints of an expression are read from: names, numbered skeletons, call sites, lattices, and the
--- function around
--- it.
+-- function around it.
 use Rattle.std.specs.Prelude.{ℕ, suc, ◌+◌, ◌-◌, ◌^◌, Bool, List, [], ◌∷◌, length, Option, if◌then◌else◌}
 use Rattle.qual_base.specs.declared.places.Span.{Span}
 use Rattle.lattice_core.specs.View.{LatticeView}
@@ -46,7 +45,8 @@ at w token = place w.spelling token
 -- the skeleton at a place: the first of some that begins there
 abbrev pub skeleton_among : List Numbered → Place → Skel
 skeleton_among [] p = no_skeleton
-skeleton_among (it ∷ others) p = if is_place it.start.at p then numbered it.start.type it.first else skeleton_among others p
+skeleton_among (it ∷ others) p =
+    if is_place it.start.at p then numbered it.start.type it.first else skeleton_among others p
 
 -- the skeleton that begins at a place
 abbrev pub skeleton : World → Place → Skel

@@ -4,7 +4,7 @@ use Rattle.lattice_core.specs.declared.Entry.{Entry}
 use Rattle.lattice_core.specs.View.{LatticeView}
 use Rattle.type_table.specs.Types.{CType}
 use Rattle.type_table.specs.Rows.{type_of}
-use Rattle.qual_types.specs.declared.row.Row.{Row}
+use Rattle.qual_types.specs.declared.row.VarRow.{VarRow}
 use Rattle.qual_types.specs.Skel.{Skel}
 use Rattle.qual_types.specs.Rows.{skel_of}
 use Rattle.name_rules.specs.Spellings.{Place}
@@ -33,7 +33,7 @@ abbrev pub type : Known → ℕ → CType
 type known n = type_of known.types.now n
 
 -- an operand with its skeleton in place of that one's number
-abbrev pub val_in : List Row → Operand → Val
+abbrev pub val_in : List VarRow → Operand → Val
 val_in rows it = record { is_place = it.is_place; skel = skel_of rows it.skel }
 
 -- an operand with its skeleton in place of that one's number, by what is known
@@ -41,10 +41,8 @@ abbrev pub val : Known → Operand → Val
 val known it = val_in known.vars.now it
 
 -- What is known shows a world: names with the types of a table in place of their numbers, the skeleton at each place by
--- its
--- number, the number of each call site that there is, what annotation words name, and the numbers of index words. Whose
--- body this
--- is in is left open.
+-- its number, the number of each call site that there is, what annotation words name, and the numbers of index words.
+-- Whose body this is in is left open.
 pub record Shows (known : Known) (w : World) : Type 0 where
   pub spelling : w.spelling ≡ spelling_of known.spelling.now
   pub names : w.names ≡ names_of (type_of known.types.now) known.names.now

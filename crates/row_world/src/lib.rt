@@ -1,7 +1,7 @@
 //! What does not change while constraints are made, found at once: skeletons, uses, declarations, members, call sites,
 //! marks, index words.
 //!
-//! Entry: `Known`, and `tape_rounds::Rounds` for what is around an op. Invariant: what is known is what the worlds of
+//! Entry: `Known`, and `tape_rounds::Rounds` for the context of an op. Invariant: what is known is what the worlds of
 //! `row_rules` say.
 //! It does not know tapes and graphs. Above: `row_adding`, `skel_steps`, `unit_starts`.
 #![tactic(auto)]

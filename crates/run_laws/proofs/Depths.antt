@@ -11,7 +11,8 @@ use Rattle.run_laws.proofs.Keeping.{other, AllFit}
 module _ (sys : System) (lattice : ℕ) (p : Program) (w : World) where
   abbrev pub depth_of : (st : State) → Run sys lattice p w st → ℕ
   depth_of st (begins _ blank) = 0
-  depth_of st (steps old _ i instr run among does) = max (length (w.frame i).sites) (max (length (w.frame (other p w old st i instr does)).sites) (depth_of old run))
+  depth_of st (steps old _ i instr run among does) =
+      max (length (w.frame i).sites) (max (length (w.frame (other p w old st i instr does)).sites) (depth_of old run))
   depth_of st (marks old _ i r n e run stands is) = max (length (w.frame i).sites) (depth_of old run)
   depth_of st (marks_cell old _ i r o k n e t run reaches stands is) = max (length (w.frame i).sites) (depth_of old run)
 
@@ -30,5 +31,7 @@ module _ (sys : System) (lattice : ℕ) (p : Program) (w : World) (world : IsWor
         copy_of sys (w.frame j).owner (w.frame j).sites depth (world j) (omega arith),
         all_fit old run (omega arith),
       )
-  all_fit st (marks old _ i r n e run stands is) h = (copy_of sys (w.frame i).owner (w.frame i).sites depth (world i) (omega arith), all_fit old run (omega arith))
-  all_fit st (marks_cell old _ i r o k n e t run reaches stands is) h = (copy_of sys (w.frame i).owner (w.frame i).sites depth (world i) (omega arith), all_fit old run (omega arith))
+  all_fit st (marks old _ i r n e run stands is) h =
+      (copy_of sys (w.frame i).owner (w.frame i).sites depth (world i) (omega arith), all_fit old run (omega arith))
+  all_fit st (marks_cell old _ i r o k n e t run reaches stands is) h =
+      (copy_of sys (w.frame i).owner (w.frame i).sites depth (world i) (omega arith), all_fit old run (omega arith))

@@ -26,11 +26,13 @@ module _ (sys : System) (lattice : ℕ) (order : Order) (depth : ℕ) (map : Ass
   bound_holds : (i n e : ℕ) (s : Skel) → FitsIn sys depth w i → Belongs (owner_of sys) (w.frame i).owner s
       → Stands sys lattice n (Bound (root s) lattice e) → leq order (els i (root s)) e ≡ true
   bound_holds i n e s deep mine st =
-      let met = met_in sys lattice order depth map p w ordered meets.rises of (w.frame i).owner (w.frame i).sites (root s) deep (belongs_root (owner_of sys) (w.frame i).owner s mine) in
+      let met = met_in sys lattice order depth map p w ordered meets.rises of (w.frame i).owner (w.frame i).sites
+      (root s) deep (belongs_root (owner_of sys) (w.frame i).owner s mine) in
       subst (λ q. leq order q e ≡ true) met.same (meets.bound n e (root s) met.there st met.copy)
 
   not_over : (x : Value) (q e : ℕ) → AllBelow order x.labels q → leq order q e ≡ true → Exceeds order x e → ⊥
-  not_over x q e below up over = false_not (sym over.2 ∙ ordered.through over.0 q e (below_one order x.labels q over.0 below over.1) up)
+  not_over x q e below up over =
+      false_not (sym over.2 ∙ ordered.through over.0 q e (below_one order x.labels q over.0 below over.1) up)
 
   safe : (st : State) (run : Run sys lattice p w st) → AllFit sys lattice depth p w st run
       → (v : IsViolated sys lattice order p w st) → FitsIn sys depth w (frame_of sys lattice order p w st v) → ⊥
@@ -38,15 +40,19 @@ module _ (sys : System) (lattice : ℕ) (order : Order) (depth : ℕ) (map : Ass
       let good = runs_keep sys lattice order depth map p w ordered meets.rises of st run fit in
       let s : Skel = skel_at p w v.frame v.reg in
       not_over (st.regs v.frame v.reg) (els v.frame (root s)) v.e
-      (subst (λ q. AllBelow order (st.regs v.frame v.reg).labels q) (top_read (els v.frame) s) (good.regs v.frame v.reg).0)
+      (subst (λ q. AllBelow order (st.regs v.frame v.reg).labels q) (top_read (els v.frame) s)
+      (good.regs v.frame v.reg).0)
       (bound_holds v.frame v.n v.e s deep (of.belongs (w.frame v.frame).owner v.reg) v.bound) v.over
   safe st run fit (inr v) deep =
       let good = runs_keep sys lattice order depth map p w ordered meets.rises of st run fit in
       let s : Skel = skel_at p w v.frame v.reg in
-      let part = reached sys lattice order depth map p w ordered meets.rises of st (w.frame v.frame).owner (w.frame v.frame).sites (st.regs v.frame v.reg) s v.object v.offset v.part good
-      (reg_leads sys lattice order depth map p w ordered meets.rises of (els v.frame) s (st.regs v.frame v.reg) (good.regs v.frame v.reg)) (of.belongs (w.frame v.frame).owner v.reg) v.there in
+      let part = reached sys lattice order depth map p w ordered meets.rises of st (w.frame v.frame).owner
+      (w.frame v.frame).sites (st.regs v.frame v.reg) s v.object v.offset v.part good
+      (reg_leads sys lattice order depth map p w ordered meets.rises of (els v.frame) s (st.regs v.frame v.reg)
+      (good.regs v.frame v.reg)) (of.belongs (w.frame v.frame).owner v.reg) v.there in
       not_over (st.cells v.object v.offset) (els v.frame (root v.part)) v.e
-      (subst (λ q. AllBelow order (st.cells v.object v.offset).labels q) (ap (λ y. top y) part.same ∙ top_kept (els v.frame) v.part) (good.cells v.object v.offset).0)
+      (subst (λ q. AllBelow order (st.cells v.object v.offset).labels q)
+      (ap (λ y. top y) part.same ∙ top_kept (els v.frame) v.part) (good.cells v.object v.offset).0)
       (bound_holds v.frame v.n v.e v.part deep part.belongs v.bound) v.over
 
 -- no run of an accepted program comes to a state with a violation in the lattice
@@ -55,5 +61,6 @@ runs_are_safe sys lattice order p w st ordered accepted of world run violated =
     let i = frame_of sys lattice order p w st violated in
     let depth : ℕ = max (length (w.frame i).sites) (depth_of sys lattice p w st run) in
     let found = accepted depth in
-    safe sys lattice order depth found.0 p w ordered found.1 of st run (all_fit sys lattice p w world depth st run (omega arith)) violated
+    safe sys lattice order depth found.0 p w ordered found.1 of st run
+    (all_fit sys lattice p w world depth st run (omega arith)) violated
     (copy_of sys (w.frame i).owner (w.frame i).sites depth (world i) (omega arith))

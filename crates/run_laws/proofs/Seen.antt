@@ -131,11 +131,22 @@ module _ (limit : ℕ) where
 
   asks : (owner : Owner) (instr : Instr) → IsAmong instr (code owner) → Asks (sys limit) 0 program owner instr
   asks Nobody instr among = absurd among
-  asks (Function zero) instr (inl is) = subst (λ x. asked x) (sym is) (record { var = 0; inside = flat 1 Base; is = refl }, inr refl)
+  asks (Function zero) instr (inl is) =
+      subst (λ x. asked x) (sym is) (record { var = 0; inside = flat 1 Base; is = refl }, inr refl)
   asks (Function zero) instr (inr (inl is)) = subst (λ x. asked x) (sym is) (0, refl)
   asks (Function zero) instr (inr (inr (inl is))) = subst (λ x. asked x) (sym is)
-      (inr (record { there = (((1, record { constraint = constraint (Le 1 3); there = refl; link_is = refl; carried = refl }), (inr refl, inr refl)), tt); even = inl tt }))
-  asks (Function zero) instr (inr (inr (inr (inl is)))) = subst (λ x. asked x) (sym is) (record { var = 2; inside = flat 3 Base; is = refl }, inr refl)
+      (inr (record {
+        there = (
+          (
+            (1, record { constraint = constraint (Le 1 3); there = refl; link_is = refl; carried = refl }),
+            (inr refl, inr refl),
+          ),
+          tt,
+        );
+        even = inl tt;
+      }))
+  asks (Function zero) instr (inr (inr (inr (inl is)))) =
+      subst (λ x. asked x) (sym is) (record { var = 2; inside = flat 3 Base; is = refl }, inr refl)
   asks (Function zero) instr (inr (inr (inr (inr (inl is))))) = subst (λ x. asked x) (sym is) (2, refl)
   asks (Function zero) instr (inr (inr (inr (inr (inr later))))) = absurd later
   asks (Function (suc g)) instr among = absurd among
@@ -152,13 +163,18 @@ module _ (limit : ℕ) where
 
   is_run : Run (sys limit) 0 program world stored
   is_run =
-      let one : Run (sys limit) 0 program world named = steps blank named 0 (shared 0) (begins blank ((λ i r. refl), (λ o k. refl)))
+      let one : Run (sys limit) 0 program world named =
+      steps blank named 0 (shared 0) (begins blank ((λ i r. refl), (λ o k. refl)))
       (inl refl) (0, 0, record { var = 0; inside = flat 1 Base; is = refl }, refl, refl) in
-      let two : Run (sys limit) 0 program world marked = marks_cell named marked 0 0 0 0 0 1 (flat 1 Base) one (0, 0, refl, inl (refl, refl, refl))
+      let two : Run (sys limit) 0 program world marked =
+      marks_cell named marked 0 0 0 0 0 1 (flat 1 Base) one (0, 0, refl, inl (refl, refl, refl))
       (record { constraint = constraint (Const 0 1 1); there = refl; link_is = refl; carried = refl }) refl in
-      let three : Run (sys limit) 0 program world loaded = steps marked loaded 0 (load 1 0) two (inr (inl refl)) (0, 0, refl, tt, refl) in
-      let four : Run (sys limit) 0 program world moved = steps loaded moved 0 (move 3 1) three (inr (inr (inl refl))) (num 0, (0, refl), refl) in
-      let five : Run (sys limit) 0 program world placed = steps moved placed 0 (shared 2) four (inr (inr (inr (inl refl))))
+      let three : Run (sys limit) 0 program world loaded =
+      steps marked loaded 0 (load 1 0) two (inr (inl refl)) (0, 0, refl, tt, refl) in
+      let four : Run (sys limit) 0 program world moved =
+      steps loaded moved 0 (move 3 1) three (inr (inr (inl refl))) (num 0, (0, refl), refl) in
+      let five : Run (sys limit) 0 program world placed =
+      steps moved placed 0 (shared 2) four (inr (inr (inr (inl refl))))
       (1, 0, record { var = 2; inside = flat 3 Base; is = refl }, refl, refl) in
       steps placed stored 0 (store 2 3) five (inr (inr (inr (inr (inl refl))))) (1, 0, refl, refl)
 

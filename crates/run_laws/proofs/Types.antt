@@ -89,7 +89,8 @@ abbrev mutual
   Subs order forward (cell q s) (arrow r qs t) = ⊥
   Subs order forward (arrow q ps s) (leaf r) = ⊥
   Subs order forward (arrow q ps s) (cell r t) = ⊥
-  Subs order forward (arrow q ps s) (arrow r qs t) = Goes order forward q r × AllSubs order (not forward) ps qs × Subs order forward s t
+  Subs order forward (arrow q ps s) (arrow r qs t) =
+      Goes order forward q r × AllSubs order (not forward) ps qs × Subs order forward s t
 
   pub AllSubs : Order → Bool → Trees → Trees → Type 0
   AllSubs order forward no_trees no_trees = Unit {0}
@@ -144,11 +145,13 @@ mutual
   turn order forward (cell q s) (arrow r qs t) h = absurd h
   turn order forward (arrow q ps s) (leaf r) h = absurd h
   turn order forward (arrow q ps s) (cell r t) h = absurd h
-  turn order forward (arrow q ps s) (arrow r qs t) h = (turned order forward q r h.0, turn_all order (not forward) ps qs h.1, turn order forward s t h.2)
+  turn order forward (arrow q ps s) (arrow r qs t) h =
+      (turned order forward q r h.0, turn_all order (not forward) ps qs h.1, turn order forward s t h.2)
 
   turn_all : (order : Order) (forward : Bool) (ps qs : Trees) → AllSubs order forward ps qs
       → AllSubs order (not forward) qs ps
   turn_all order forward no_trees no_trees h = tt
   turn_all order forward no_trees (more_trees q qs) h = absurd h
   turn_all order forward (more_trees p ps) no_trees h = absurd h
-  turn_all order forward (more_trees p ps) (more_trees q qs) h = (turn order forward p q h.0, turn_all order forward ps qs h.1)
+  turn_all order forward (more_trees p ps) (more_trees q qs) h =
+      (turn order forward p q h.0, turn_all order forward ps qs h.1)

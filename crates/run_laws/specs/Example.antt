@@ -25,8 +25,7 @@ abbrev pub constraint : Link → Constraint
 constraint link = record { link = link; lattices = 1; span = record { unit = 0; from = 0; to = 0 } }
 
 -- The system, with an element as the bound of b, 0 above. Variables 0 and 2 are of the places of a and b, 1 and 3 of
--- what
--- they hold, all of nobody.
+-- what they hold, all of nobody.
 abbrev pub sys : ℕ → System
 sys limit = record {
   constraints = constraint (Const 0 1 1) ∷ constraint (Le 1 3) ∷ constraint (Bound 3 0 limit) ∷ [];

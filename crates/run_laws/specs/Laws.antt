@@ -15,13 +15,13 @@ RunsAreSafe = (sys : System) (lattice : ℕ) (order : Order) (p : Program) (w : 
 
 -- There are violations to be had: the constraints of a program are in its system, and a run of it has one.
 abbrev pub SomeRunIsViolated : Type 0
-SomeRunIsViolated = IsOrder example.order × IsSystemOf (example.sys 0) 0 example.program × IsWorld (example.sys 0) example.world ×
+SomeRunIsViolated =
+    IsOrder example.order × IsSystemOf (example.sys 0) 0 example.program × IsWorld (example.sys 0) example.world ×
     ((st : State) × Run (example.sys 0) 0 example.program example.world st ×
     IsViolated (example.sys 0) 0 example.order example.program example.world st)
 
 -- And there are runs of accepted programs: where `b` may be tainted, the same program is accepted, and a run of it
--- brings
--- what is tainted to the cell of `b`.
+-- brings what is tainted to the cell of `b`.
 abbrev pub SomeRunIsAccepted : Type 0
 SomeRunIsAccepted = IsAcceptedIn (example.sys 1) 0 example.order × IsSystemOf (example.sys 1) 0 example.program ×
     IsWorld (example.sys 1) example.world ×

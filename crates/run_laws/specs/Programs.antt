@@ -1,8 +1,7 @@
 -- Programs as steps over registers, and the constraints that a system has of them.
 --
 -- An expression is taken apart into steps. A register has a skeleton and holds a value: a variable's register holds the
--- address
--- of its cell, at the skeleton of its place, and each expression has a register at the skeleton of its value.
+-- address of its cell, at the skeleton of its place, and each expression has a register at the skeleton of its value.
 use Rattle.std.specs.Prelude.{◌≡◌, ◌⊎◌, ℕ, true, false, List, [], ◌∷◌, Option, Some, slice_get}
 use Rattle.qual_base.specs.declared.places.Owner.{Owner}
 use Rattle.qual_base.specs.declared.places.Owner.TheVariants.{Nobody, Function}
@@ -40,9 +39,8 @@ pub data Instr : Type 0 where
   take : ℕ → ℕ → Instr
 
 -- Registers and their skeletons, by the function or by nobody, whose are the initialisers at file scope; of each
--- function the
--- skeleton of its first declaration and the registers of its parameters and of its result; the steps of each, in no
--- order.
+-- function the skeleton of its first declaration and the registers of its parameters and of its result; the steps of
+-- each, in no order.
 pub record Program : Type 0 where
   pub skel : Owner → ℕ → Skel
   pub signature : ℕ → Skel
@@ -118,7 +116,8 @@ Asks sys lattice p owner (compute r a b) = LabelsGo sys lattice owner (root (p.s
 Asks sys lattice p owner (shift r a) = p.skel owner r ≡ p.skel owner a
 Asks sys lattice p owner (load r a) = (v : ℕ) × (p.skel owner a ≡ ref v (p.skel owner r))
 Asks sys lattice p owner (store a b) = (v : ℕ) × (p.skel owner a ≡ ref v (p.skel owner b))
-Asks sys lattice p owner (pass f k a) = (callee : AtFun (p.skel owner f)) × (param_at callee.params k ≡ Some (p.skel owner a))
+Asks sys lattice p owner (pass f k a) =
+    (callee : AtFun (p.skel owner f)) × (param_at callee.params k ≡ Some (p.skel owner a))
 Asks sys lattice p owner (take r f) = (callee : AtFun (p.skel owner f)) × (callee.result ≡ p.skel owner r)
 
 -- a function's parameters and result are at the skeletons of its first declaration

@@ -86,12 +86,12 @@ IsMoved (ref v s) old raw = raw ≡ old
 IsMoved (fun v ps r e) old raw = raw ≡ old
 
 -- One step of a call. A call's frame, and a new object, may be any that is declared so: how numbers are given out, and
--- in
--- which order the steps of all calls are taken, is left open.
+-- in which order the steps of all calls are taken, is left open.
 abbrev pub Does : Program → World → ℕ → Instr → State → State → Type 0
 Does p w i (number r) old new = (n : ℕ) × (new ≡ puts_reg old i r (plain (num n)))
 Does p w i (local r) old new = (o k : ℕ) × (place : AtRef (skel_at p w i r))
-    × (w.object o ≡ record { skel = place.inside; sites = (w.frame i).sites }) × (new ≡ puts_reg old i r (plain (ptr o k)))
+    × (w.object o ≡ record { skel = place.inside; sites = (w.frame i).sites })
+    × (new ≡ puts_reg old i r (plain (ptr o k)))
 Does p w i (shared r) old new = (o k : ℕ) × (place : AtRef (skel_at p w i r))
     × (w.object o ≡ record { skel = place.inside; sites = [] }) × (new ≡ puts_reg old i r (plain (ptr o k)))
 Does p w i (name r s g) old new = new ≡ puts_reg old i r (plain (code g (s ∷ (w.frame i).sites)))
@@ -121,8 +121,7 @@ abbrev pub IsBlank : State → Type 0
 IsBlank st = ((i r : ℕ) → st.regs i r ≡ plain (num 0)) × ((o k : ℕ) → st.cells o k ≡ plain (num 0))
 
 -- The states of the runs in a lattice. A value may at any time take the label of a constant at whose variable it is, in
--- a
--- register or in a cell that a register leads to.
+-- a register or in a cell that a register leads to.
 pub data Run (sys : System) (lattice : ℕ) (p : Program) (w : World) : State → Type 0 where
   begins : (st : State) → IsBlank st → Run sys lattice p w st
   steps : (old new : State) (i : ℕ) (instr : Instr) → Run sys lattice p w old
@@ -133,7 +132,8 @@ pub data Run (sys : System) (lattice : ℕ) (p : Program) (w : World) : State �
       new ≡ puts_reg old i r (labelled e (old.regs i r)) → Run sys lattice p w new
   marks_cell : (old new : State) (i r o k n e : ℕ) (t : Skel) → Run sys lattice p w old →
       Reaches old (old.regs i r) (skel_at p w i r) o k t →
-      Stands sys lattice n (Const lattice e (root t)) → new ≡ puts_cell old o k (labelled e (old.cells o k)) → Run sys lattice p w new
+      Stands sys lattice n (Const lattice e (root t)) → new ≡ puts_cell old o k (labelled e (old.cells o k))
+      → Run sys lattice p w new
 
 -- an element is one of these
 abbrev pub IsOneOf : ℕ → List ℕ → Type 0

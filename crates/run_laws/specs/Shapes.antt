@@ -29,8 +29,7 @@ MayDiffer true s = HasNoFun s
 MayDiffer false s = ⊥
 
 -- Two skeletons whose values are of one kind, both references or both not, and whose cells are alike: what a `void *`
--- refers
--- to may be beside a reference. The parameters and results of functions are of one kind.
+-- refers to may be beside a reference. The parameters and results of functions are of one kind.
 abbrev mutual
   -- both are flat, or both are references to contents that are alike
   pub IsEven : Bool → Skel → Skel → Type 0

@@ -6,6 +6,7 @@ use Rattle.std.proofs.lemmas.List.{reverse-append}
 use Rattle.std.proofs.lemmas.List.Elements.{Contains-append_cases}
 use Rattle.qual_base.specs.declared.places.Owner.{Owner}
 use Rattle.qual_base.specs.declared.places.Owner.TheVariants.{Function}
+use Rattle.qual_base.proofs.Tests.{and_second, and_first}
 use Rattle.flow_graph.specs.System.{owner_of}
 use Rattle.flow_rules.specs.Owners.{AllOwned}
 use Rattle.name_rules.specs.Spellings.{Place}
@@ -28,24 +29,18 @@ use Rattle.sig_writer.proofs.Elements.{first_or, here, none, of_filter, of_map, 
 
 -- ---- lists
 
-and_left : (a b : Bool) → (a && b) ≡ true → a ≡ true
-and_left true b is = refl
-and_left false b is = absurd cc
-
-and_right : (a b : Bool) → (a && b) ≡ true → b ≡ true
-and_right true b is = is
-and_right false b is = absurd cc
-
 -- an element of a reversed list is one of the list
 of_reverse : {X : Type 0} (xs : List X) (x : X) → Contains (reverse xs) x → Contains xs x
 of_reverse [] x h = h
-of_reverse {X} (y ∷ xs) x h = elim (Contains-append_cases (reverse xs) (y ∷ []) x (subst (λ (ys : List X). Contains ys x) (reverse-append (y ∷ []) xs) h)) [
-  | inl before ↦ there xs y x (of_reverse xs x before)
-  | inr last ↦ elim (first_or [] y x last) [
-    | inl same ↦ subst (λ (z : X). Contains (y ∷ xs) z) same (here xs y)
-    | inr more ↦ absurd (none x more)
-  ]
-]
+of_reverse {X} (y ∷ xs) x h =
+    elim (Contains-append_cases (reverse xs) (y ∷ []) x
+    (subst (λ (ys : List X). Contains ys x) (reverse-append (y ∷ []) xs) h)) [
+      | inl before ↦ there xs y x (of_reverse xs x before)
+      | inr last ↦ elim (first_or [] y x last) [
+        | inl same ↦ subst (λ (z : X). Contains (y ∷ xs) z) same (here xs y)
+        | inr more ↦ absurd (none x more)
+      ]
+    ]
 
 -- ---- numbers of functions
 
@@ -68,7 +63,8 @@ one_number n (x ∷ places) p q has_p has_q same =
     by : (a b : Bool) → is_place x p ≡ a → is_place x q ≡ b → (if a then true else has_place places p) ≡ true →
         (if b then true else has_place places q) ≡ true →
         (if a then n else number_among (suc n) places p) ≡ (if b then n else number_among (suc n) places q) →
-        (has_place places p ≡ true → has_place places q ≡ true → number_among (suc n) places p ≡ number_among (suc n) places q → p ≡ q) →
+        (has_place places p ≡ true → has_place places q ≡ true
+        → number_among (suc n) places p ≡ number_among (suc n) places q → p ≡ q) →
         p ≡ q
     by true true at_p at_q has_p has_q same later = sym (place_is x p at_p) ∙ place_is x q at_q
     by true false at_p at_q has_p has_q same later =
@@ -105,7 +101,8 @@ owned_at own owner (u ∷ vars) v all in_vars = elim (first_or vars u v in_vars)
 function_is : (m n : ℕ) → Function m ≡ Function n → m ≡ n
 function_is m n same = cc
 
-module _ (law : FunctionsOwnTheirs) (units : List UnitText) (p : Program) (read : All IsRead p.sources) (differ : UnitsDiffer p.sources) where
+module _ (law : FunctionsOwnTheirs) (units : List UnitText) (p : Program) (read : All IsRead p.sources)
+    (differ : UnitsDiffer p.sources) where
   abbrev s : Names
   s = names_of p.sources
 
@@ -131,10 +128,12 @@ module _ (law : FunctionsOwnTheirs) (units : List UnitText) (p : Program) (read 
       let at : thing.0.1 ≡ q = thing.2 in
       let tested : is_first s (thing.0.0, q) ≡ true =
       subst (λ (x : Place). is_first s (thing.0.0, x) ≡ true) at kept.1 in
-      let both = and_right (is_external s.statics thing.0.0 q)
+      let both = and_second (is_external s.statics thing.0.0 q)
       (is_place (link_of s q) q && is_some_function (declared_at s.declared q)) tested in
-      let linked = place_is (link_of s q) q (and_left (is_place (link_of s q) q) (is_some_function (declared_at s.declared q)) both) in
-      let declared = some_declared (declared_at s.declared q) (and_right (is_place (link_of s q) q) (is_some_function (declared_at s.declared q)) both) in
+      let linked = place_is (link_of s q) q
+      (and_first (is_place (link_of s q) q) (is_some_function (declared_at s.declared q)) both) in
+      let declared = some_declared (declared_at s.declared q)
+      (and_second (is_place (link_of s q) q) (is_some_function (declared_at s.declared q)) both) in
       let named : Contains s.things (thing.0.0, q) =
       subst (λ (x : Place). Contains s.things (thing.0.0, x)) at (of_reverse s.things thing.0 kept.0) in
       record {
@@ -149,12 +148,15 @@ module _ (law : FunctionsOwnTheirs) (units : List UnitText) (p : Program) (read 
       let a = at_place one in_one in
       let b = at_place other in_other in
       let first : Function f ≡ Function (number_among 0 functions (link_of s a.q)) =
-      sym own_u ∙ owned_at (owner_of (system_of p)) (owner_by functions (Some (link_of s a.q))) (nodes_of (external a.q)) u a.owns.owned
+      sym own_u ∙ owned_at (owner_of (system_of p)) (owner_by functions (Some (link_of s a.q)))
+      (nodes_of (external a.q)) u a.owns.owned
       (subst (λ (e : External). Contains (nodes_of e) u) (sym a.is) at_u) in
       let second : Function f ≡ Function (number_among 0 functions (link_of s b.q)) =
-      sym own_v ∙ owned_at (owner_of (system_of p)) (owner_by functions (Some (link_of s b.q))) (nodes_of (external b.q)) v b.owns.owned
+      sym own_v ∙ owned_at (owner_of (system_of p)) (owner_by functions (Some (link_of s b.q)))
+      (nodes_of (external b.q)) v b.owns.owned
       (subst (λ (e : External). Contains (nodes_of e) v) (sym b.is) at_v) in
-      let numbers = function_is (number_among 0 functions (link_of s a.q)) (number_among 0 functions (link_of s b.q)) (sym first ∙ second) in
+      let numbers = function_is (number_among 0 functions (link_of s a.q)) (number_among 0 functions (link_of s b.q))
+      (sym first ∙ second) in
       let links = one_number 0 functions (link_of s a.q) (link_of s b.q) a.owns.numbered b.owns.numbered numbers in
       let places : a.q ≡ b.q = sym a.linked ∙ links ∙ b.linked in
       ap nodes_of (sym a.is ∙ ap external places ∙ b.is)

@@ -24,13 +24,6 @@ module _ {X : Type 0} where
   of_place (y ∷ xs) zero x is = let same : y ≡ x = cc in subst (λ z. Contains (y ∷ xs) z) same (here xs y)
   of_place (y ∷ xs) (suc k) x is = there xs y x (of_place xs k x is)
 
-  pub place_of : (xs : List X) (x : X) → Contains xs x → (k : ℕ) × (slice_get xs k ≡ Some x)
-  place_of [] x h = absurd (none x h)
-  place_of (y ∷ xs) x h = elim (first_or xs y x h) [
-    | inl same ↦ (zero, ap Some same)
-    | inr more ↦ let on = place_of xs x more in (suc on.0, on.1)
-  ]
-
   -- tests
   pub of_all : (p : X → Bool) (xs : List X) → ((x : X) → Contains xs x → p x ≡ true) → list_all p xs ≡ true
   of_all p [] h = refl

@@ -1,6 +1,7 @@
 -- The external functions of a program are those that the code holds.
-use Rattle.std.proofs.Common.{◌≡◌, ◌≤◌, ◌^◌, ℕ, zero, suc, ◌+◌, List, [], ◌∷◌, length, map, slice_get, unwrap_or, Option, None, Some, refl, sym, ◌∙◌, ap, arith}
-use Rattle.qual_types.specs.declared.row.Row.{Row}
+use Rattle.std.proofs.Common.{◌≡◌, ◌≤◌, ◌^◌, ℕ, ◌+◌, List, [], ◌∷◌, length, map, unwrap_or, Option, None, Some, refl, sym, ◌∙◌, ap, arith}
+use Rattle.std.proofs.lemmas.Option.{slice_get_past}
+use Rattle.qual_types.specs.declared.row.VarRow.{VarRow}
 use Rattle.qual_types.specs.Skel.{no_skeleton}
 use Rattle.qual_types.specs.Rows.{Seen, all_seen, nothing, skel_of}
 use Rattle.name_rules.specs.Spellings.{Place}
@@ -15,21 +16,15 @@ use Rattle.sig_writer.specs.Library.{external_at}
 use Rattle.sig_writer.specs.Nodes.{root_in, skel_by}
 use Rattle.sig_writer.specs.Signatures.{External}
 
--- past its length a list has no element
-none_past : {A : Type 0} (xs : List A) (i : ℕ) → length xs ≤ i → slice_get xs i ≡ None
-none_past [] i le = refl
-none_past (x ∷ xs) zero le = absurd (omega (arith, le))
-none_past (x ∷ xs) (suc i) le = none_past xs i (omega (arith, le))
-
-seen_length : (k : ℕ) (rows : List Row) → length (all_seen k rows) ≡ length rows
+seen_length : (k : ℕ) (rows : List VarRow) → length (all_seen k rows) ≡ length rows
 seen_length k [] = refl
 seen_length k (r ∷ rows) = let l = seen_length (k + 1) rows in omega (arith, l)
 
 -- a number past the table has no skeleton
-past : (rows : List Row) (n : ℕ) → length rows ≤ n → skel_of rows n ≡ no_skeleton
+past : (rows : List VarRow) (n : ℕ) → length rows ≤ n → skel_of rows n ≡ no_skeleton
 past rows n le =
     let l = seen_length 0 rows in
-    ap (λ (o : Option Seen). (unwrap_or o nothing).tree) (none_past (all_seen 0 rows) n (omega (arith, l, le)))
+    ap (λ (o : Option Seen). (unwrap_or o nothing).tree) (slice_get_past (all_seen 0 rows) n (omega (arith, l, le)))
 
 module _ (it : Skeletons) (all : List Numbered) (few : length it.vars ≤ 2 ^ 24)
     (found : (p : Place) → skel_of it.vars (root_in it p) ≡ skeleton_among all p) where
@@ -37,7 +32,9 @@ module _ (it : Skeletons) (all : List Numbered) (few : length it.vars ≤ 2 ^ 24
   skel_held p = by (number_at it.starts p) refl
     where
       by : (n : Option ℕ) → number_at it.starts p ≡ n → skeleton_among all p ≡ skel_by it n
-      by None is = sym (found p) ∙ ap (λ (o : Option ℕ). skel_of it.vars (number_or_none o)) is ∙ past it.vars 4294967295 (omega (arith, few))
+      by None is =
+          sym (found p) ∙ ap (λ (o : Option ℕ). skel_of it.vars (number_or_none o)) is
+          ∙ past it.vars 4294967295 (omega (arith, few))
       by (Some n) is = sym (found p) ∙ ap (λ (o : Option ℕ). skel_of it.vars (number_or_none o)) is
 
   all_held : (units : List UnitText) (places : List Place)

@@ -3,9 +3,11 @@
 use Rattle.std.proofs.Common.{◌≡◌, ℕ, zero, suc, ◌+◌, nat_eq, Bool, true, false, not, ◌&&◌, ◌||◌, cond, List, [], ◌∷◌, slice_get, Some, refl, sym, ◌∙◌, ap, subst, arith, inl, inr}
 use Rattle.std.specs.List.{list_any, Contains}
 use Rattle.std.proofs.lemmas.Bool.{and_from, eq-eqb, eqb-true, ne_eqb, or_cases, or_left, or_right, not_from_false}
+use Rattle.qual_base.proofs.Lists.{place_of}
+use Rattle.qual_base.proofs.Tests.{some_number}
 use Rattle.sig_writer.specs.Signatures.{Found, is_marked, marked, numbers_of, numbers_to}
 use Rattle.sig_writer.specs.Parts.{are_among}
-use Rattle.sig_writer.proofs.Elements.{all_of, any_of, first_or, here, in_filter, none, of_all, of_any, of_filter, of_place, place_of, there}
+use Rattle.sig_writer.proofs.Elements.{all_of, any_of, first_or, here, in_filter, none, of_all, of_any, of_filter, of_place, there}
 
 module _ (it : Found) where
   -- a node is another one, or a matched path leads from it there
@@ -32,9 +34,6 @@ module _ (it : Found) where
         | inr more ↦ later more
       ]
 
-  some_is : {x y : ℕ} → Some x ≡ Some y → x ≡ y
-  some_is e = cc
-
   more_numbers : (v n u : ℕ) (us : List ℕ) (b : Bool) (k : ℕ) → Contains (numbers_to it v (suc n) us) k →
       Contains (cond b (n ∷ numbers_to it v (suc n) us) (numbers_to it v (suc n) us)) k
   more_numbers v n u us false k h = h
@@ -44,7 +43,7 @@ module _ (it : Found) where
       Contains (numbers_to it v n us) (n + i)
   in_numbers v n i w [] there_is is = absurd cc
   in_numbers v n zero w (u ∷ us) at is =
-      let first : leads u v ≡ true = ap (λ x. leads x v) (some_is at) ∙ is in
+      let first : leads u v ≡ true = ap (λ x. leads x v) (some_number at) ∙ is in
       let more = numbers_to it v (suc n) us in
       subst (λ b. Contains (cond b (n ∷ more) more) (n + 0)) (sym first)
       (subst (λ k. Contains (n ∷ more) k) (omega arith) (here more n))
@@ -84,7 +83,7 @@ module _ (it : Found) where
               let same : place.0 ≡ at.0 = omega (arith, at.2) in
               let there_too : slice_get (marked it nodes) place.0 ≡ Some at.1 =
               ap (λ i. slice_get (marked it nodes) i) same ∙ at.3 in
-              ap (λ w. leads w u) (some_is (sym place.1 ∙ there_too)) ∙ at.4,
+              ap (λ w. leads w u) (some_number (sym place.1 ∙ there_too)) ∙ at.4,
         )
 
     -- what has the numbers of a marked node is that node, or it leads there

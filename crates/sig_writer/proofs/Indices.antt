@@ -8,6 +8,8 @@ use Rattle.std.proofs.lemmas.Bool.{and_from, and_parts, cases_Bool, cond-false, 
 use Rattle.std.proofs.lemmas.Bool.{not_from_false, or_cases, or_left, or_right}
 use Rattle.std.proofs.lemmas.Option.{get_or_from_slice_get, slice_get-get_or, slice_get-map, slice_get_within}
 use Rattle.std.proofs.lemmas.List.Folds.{list_any_at}
+use Rattle.qual_base.proofs.Lists.{map_length}
+use Rattle.qual_base.proofs.Tests.{same_test}
 use Rattle.index_words.specs.Marks.{AreAscending}
 use Rattle.match_summary.specs.declared.reason.Summary.{Summary}
 use Rattle.match_summary.specs.Summary.{HasPair}
@@ -186,13 +188,6 @@ any_found p (x ∷ xs) is = elim (or_cases (p x) (list_any p xs) is) [
 pub any_from : (p : ℕ → Bool) (xs : List ℕ) (x : ℕ) → Contains xs x → p x ≡ true → list_any p xs ≡ true
 any_from p xs x has is = list_any_at p xs has.0 x has.1 (ap p has.2 ∙ is)
 
--- two tests of which each holds where the other does are equal
-same_bool : (a b : Bool) → (a ≡ true → b ≡ true) → (b ≡ true → a ≡ true) → a ≡ b
-same_bool true true there back = refl
-same_bool true false there back = sym (there refl)
-same_bool false true there back = back refl
-same_bool false false there back = refl
-
 -- two lists of one length that have the same elements at each index are one list
 same_lists : {X : Type 0} → (xs ys : List X) → length xs ≡ length ys →
     ((i : ℕ) → i < length xs → slice_get xs i ≡ slice_get ys i) → xs ≡ ys
@@ -203,10 +198,6 @@ same_lists (x ∷ xs) (y ∷ ys) size same =
     let head : Some x ≡ Some y = same 0 (omega arith) in
     let rest = same_lists xs ys (omega (arith, size)) (λ i lt. same (suc i) (omega (arith, lt))) in
     cc
-
-map_length : {X Y : Type 0} → (f : X → Y) (xs : List X) → length (map f xs) ≡ length xs
-map_length f [] = refl
-map_length f (x ∷ xs) = ap (λ n. suc n) (map_length f xs)
 
 -- ---- the nodes of a function
 
@@ -298,7 +289,7 @@ module _ (nodes : Nodes) (vars : List ℕ) (it : Found) (rows : List Summary) (m
   mark_read i lt =
       let count = are_marks.count in
       let read = slice_get-get_or marks i false (omega (arith, lt, count)) in
-      read ∙ ap (λ (b : Bool). Some b) (same_bool (get_or marks i false) (is_marked it vars (nodes.from + i))
+      read ∙ ap (λ (b : Bool). Some b) (same_test (get_or marks i false) (is_marked it vars (nodes.from + i))
       (λ is. marked_there i lt (read ∙ ap (λ (b : Bool). Some b) is))
       (λ is. get_or_from_slice_get marks i true false (marked_back i lt is)))
 

@@ -1,6 +1,7 @@
 -- What is right of the nodes of a library is one, and so are its lines.
-use Rattle.std.proofs.Common.{◌≡◌, ℕ, suc, nat_eq, Bool, true, false, not, ◌&&◌, ◌||◌, cond, List, [], ◌∷◌, ◌++◌, Option, None, Some, codes, refl, sym, ◌∙◌, ap, subst, inl, inr}
+use Rattle.std.proofs.Common.{◌≡◌, ℕ, suc, nat_eq, Bool, not, ◌&&◌, ◌||◌, cond, List, [], ◌∷◌, ◌++◌, Option, None, Some, codes, refl, ◌∙◌, ap, subst, inl, inr}
 use Rattle.std.specs.List.{flat_map, list_any, Contains}
+use Rattle.qual_base.proofs.Tests.{same_test}
 use Rattle.lattice_core.specs.Order.{Order, IsLattice}
 use Rattle.lattice_core.specs.View.{LatticeView}
 use Rattle.flow_graph.specs.System.{System}
@@ -11,12 +12,6 @@ use Rattle.sig_writer.specs.Laws.{OneText}
 use Rattle.sig_writer.specs.Signatures.{External, Found, NoPlace, NoWord, Says, declared_text, first_refusal, has_line, is_marked, is_unplaced, is_unsigned, lacks_words, line_of, lines_of, marked, nodes_of, numbers_of, numbers_to, or_refusal, refusal_of, says, says_nothing, unless, unplaced, words_in, words_of}
 use Rattle.sig_writer.proofs.Elements.{first_or, here, in_flat, of_filter, same_any, same_filter, same_flat, there}
 use Rattle.sig_writer.proofs.Texts.{root_is_node, same_declared, unplaced_is_node}
-
--- tests that follow from each other are equal
-same_test : (a b : Bool) → (a ≡ true → b ≡ true) → (b ≡ true → a ≡ true) → a ≡ b
-same_test true b to of = sym (to refl)
-same_test false true to of = of refl
-same_test false false to of = refl
 
 module _ (sys : System) (order : Order) (lat : IsLattice order) (vars : List ℕ) (one other : Found)
     (fits : IsFoundAt sys 0 order vars one) (suits : IsFoundAt sys 0 order vars other) where

@@ -73,7 +73,8 @@ root_is (function ws ps r e) n = refl
 type_in_order : (t : CType) (n : ℕ) → IsInOrder (numbered t n)
 type_in_order t n =
     let is = type_nodes t n in
-    let count : size t ≡ length (nodes (numbered t n)) = sym (ap (λ (ns : List ℕ). length ns) is ∙ numbers_length (size t) n) in
+    let count : size t ≡ length (nodes (numbered t n)) =
+    sym (ap (λ (ns : List ℕ). length ns) is ∙ numbers_length (size t) n) in
     is ∙ ap (λ k. numbers k n) count ∙ ap (numbers (length (nodes (numbered t n)))) (sym (root_is t n))
 
 by_choice : (b : Bool) (s other : Skel) → IsInOrder s → IsInOrder other → IsInOrder (if b then s else other)
@@ -84,7 +85,8 @@ by_choice false s other one two = two
 among_in_order : (all : List Numbered) (p : Place) → IsInOrder (skeleton_among all p)
 among_in_order [] p = refl
 among_in_order (it ∷ all) p =
-    by_choice (is_place it.start.at p) (numbered it.start.type it.first) (skeleton_among all p) (type_in_order it.start.type it.first) (among_in_order all p)
+    by_choice (is_place it.start.at p) (numbered it.start.type it.first) (skeleton_among all p)
+    (type_in_order it.start.type it.first) (among_in_order all p)
 
 by_number : (it : Skeletons) (o : Option ℕ) (s : Skel) → skel_of it.vars (number_or_none o) ≡ s → IsInOrder s
     → IsInOrder (skel_by it o)

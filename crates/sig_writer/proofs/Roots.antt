@@ -1,6 +1,6 @@
 -- The skeleton at the number of a function's root.
 use Rattle.std.proofs.Common.{◌≡◌, ℕ, ◌≤◌, List, length, Option, None, Some, refl, ◌∙◌, ap, subst}
-use Rattle.qual_types.specs.declared.row.Row.{Row}
+use Rattle.qual_types.specs.declared.row.VarRow.{VarRow}
 use Rattle.qual_types.specs.Skel.{no_skeleton}
 use Rattle.qual_types.specs.Rows.{skel_of}
 use Rattle.name_rules.specs.Spellings.{Place}
@@ -20,9 +20,9 @@ root_is it p few = found_all it.vars it.starts p few ∙ by_number (number_at it
     by_number (Some n) = refl
 
 -- by the rows and the number as the code has them
-pub rooted : (it : Skeletons) (p : Place) (rows : List Row) (root : ℕ) → rows ≡ it.vars → length rows ≤ 16777216 →
+pub rooted : (it : Skeletons) (p : Place) (rows : List VarRow) (root : ℕ) → rows ≡ it.vars → length rows ≤ 16777216 →
     root ≡ root_in it p →
     skel_of rows root ≡ skel_by it (number_at it.starts p)
 rooted it p rows root same few is =
-    ap (skel_of rows) is ∙ ap (λ (all : List Row). skel_of all (root_in it p)) same
-    ∙ root_is it p (subst (λ (all : List Row). length all ≤ 16777216) same few)
+    ap (skel_of rows) is ∙ ap (λ (all : List VarRow). skel_of all (root_in it p)) same
+    ∙ root_is it p (subst (λ (all : List VarRow). length all ≤ 16777216) same few)

@@ -1,11 +1,11 @@
 -- A library within a split has the paths that it has by itself.
-use Rattle.std.proofs.Common.{◌≡◌, ℕ, zero, suc, ◌<◌, ◌≤◌, max, List, [], ◌∷◌, slice_get, Some, sym, ◌∙◌, subst, arith}
+use Rattle.std.proofs.Common.{◌≡◌, ℕ, ◌<◌, ◌≤◌, List, slice_get, Some, sym, ◌∙◌, subst, arith}
 use Rattle.flow_graph.specs.declared.constraint.Link.{Link}
 use Rattle.flow_graph.specs.declared.constraint.Link.TheVariants.{Le, Const, Bound, Enter, Leave}
-use Rattle.flow_graph.specs.declared.constraint.Constraint.{Constraint}
 use Rattle.lattice_core.specs.Order.{Order}
 use Rattle.flow_graph.specs.System.{System, highest, vars_of, vars_of_link, Has, Stands}
 use Rattle.flow_graph.specs.Paths.{Matches, stay, longer, Part, flow, group, Match}
+use Rattle.flow_graph.proofs.Bounds.{below-highest}
 use Rattle.flow_laws.specs.Least.{IsLeastOver}
 use Rattle.flow_laws.proofs.Links.{has_of}
 use Rattle.match_summary.specs.Summary.{IsInnerEnd}
@@ -16,21 +16,12 @@ use Rattle.sig_writer.specs.Parts.{IsSplitOf}
 
 -- ---- the variables of a constraint are below the number of all
 
--- the variables of a constraint at an index of a list are within the highest of the list
-low_link : (cs : List Constraint) (n : ℕ) (c : Constraint) → slice_get cs n ≡ Some c → vars_of_link c.link ≤ highest cs
-low_link [] n c is = absurd cc
-low_link (d ∷ cs) zero c is =
-    let same : d ≡ c = cc in
-    subst (λ (it : Constraint). vars_of_link it.link ≤ max (vars_of_link d.link) (highest cs)) same (omega arith)
-low_link (d ∷ cs) (suc n) c is = let deeper : vars_of_link c.link ≤ highest cs = low_link cs n c is in
-    omega (arith, deeper)
-
 -- the variables of a constraint of a system are within the variables of the system
 pub has_low : (sys : System) (n : ℕ) (link : Link) → Has sys n link → vars_of_link link ≤ vars_of sys
 has_low sys n link has =
     let low : vars_of_link link ≤ highest sys.constraints =
     subst (λ it. vars_of_link it ≤ highest sys.constraints) has.link_is
-    (low_link sys.constraints n has.constraint has.there) in
+    (below-highest sys.constraints n has.constraint has.there) in
     omega (arith, low)
 
 -- ---- paths of one system in another one

@@ -4,17 +4,12 @@ use Rattle.std.proofs.Common.{length, slice_get, get_or, Some, Vec, refl, sym, �
 use Rattle.std.specs.Global.{Global}
 use Rattle.std.proofs.lemmas.Bool.{cond-true, cond-false, eq-eqb, ne_eqb}
 use Rattle.std.proofs.lemmas.Option.{slice_get_read}
+use Rattle.qual_base.proofs.Lists.{stands_at}
 use Rattle.sig_writer.specs.declared.nodes.Nodes.{Nodes}
 use Rattle.sig_writer.specs.declared.says.Elements.{Elements}
 use Rattle.sig_writer.specs.Nodes.{numbers, numbers_in}
 use Rattle.sig_writer.specs.Saying.{elements_of, nothing_said, said_at, says_among, says_by, AreHeld, Saying}
 use Rattle.sig_writer.specs.Signatures.{Says}
-
--- at an index below the length of a list there is an element
-pub some_at : {X : Type 0} → (xs : List X) (n : ℕ) → n < length xs → (x : X) × (slice_get xs n ≡ Some x)
-some_at [] n lt = absurd (omega (arith, lt))
-some_at (x ∷ xs) zero lt = (x, refl)
-some_at (x ∷ xs) (suc n) lt = some_at xs n (omega (arith, lt))
 
 -- among so many variables from one on, the k-th says the k-th of what is said
 among_at : (count from : ℕ) (all : List Says) (k v : ℕ) (it : Says) → v ≡ from + k → k < count →
@@ -75,7 +70,7 @@ module _ (nodes : Nodes) (lists : List (Vec ℕ Global)) (elements : List Elemen
   numbers_here k list at lt within is =
       let one = held.numbers_are in
       let two = held.elements_are in
-      let it = some_at elements k (omega (arith, within, one, two)) in
+      let it = stands_at elements k (omega (arith, within, one, two)) in
       sym (ap (λ (s : Says). s.numbers)
       (said_here k list it.0 at lt (slice_get_read lists (length lists) k list refl within is) it.1))
 
@@ -85,7 +80,7 @@ module _ (nodes : Nodes) (lists : List (Vec ℕ Global)) (elements : List Elemen
   elements_here k it at lt within is =
       let one = held.numbers_are in
       let two = held.elements_are in
-      let list = some_at lists k (omega (arith, within, one, two)) in
+      let list = stands_at lists k (omega (arith, within, one, two)) in
       let said = said_here k list.0 it at lt list.1 (slice_get_read elements (length elements) k it refl within is) in
       ap (λ (s : Says). elements_of s.low s.high) (sym said)
 

@@ -1,5 +1,5 @@
 -- Lists that are gone through from the first item on.
-use Rattle.std.proofs.Common.{◌≡◌, ℕ, zero, suc, ◌+◌, ◌<◌, ◌≤◌, arith, List, [], ◌∷◌, ◌++◌, length, take, reverse, slice_index_or, refl, sym, ◌∙◌, ap}
+use Rattle.std.proofs.Common.{◌≡◌, ℕ, zero, suc, ◌+◌, ◌<◌, arith, List, [], ◌∷◌, ◌++◌, length, take, reverse, slice_index_or, sym, ◌∙◌, ap}
 use Rattle.std.proofs.Common.{Bool, map}
 use Rattle.std.specs.List.{filter, flat_map}
 use Rattle.std.proofs.lemmas.List.{append-nil, map-append, reverse-append}
@@ -7,13 +7,6 @@ use Rattle.std.proofs.lemmas.List.Elements.{filter-append}
 use Rattle.std.proofs.lemmas.Grind.{flat_map-append}
 
 module _ {A : Type 0} where
-  -- all of them
-  pub whole : (xs : List A) (i : ℕ) → length xs ≤ i → take i xs ≡ xs
-  whole [] zero le = refl
-  whole [] (suc i) le = refl
-  whole (x ∷ xs) zero le = absurd (omega arith)
-  whole (x ∷ xs) (suc i) le = ap (λ ys. x ∷ ys) (whole xs i (omega arith))
-
   -- one more
   pub taken_more : (xs : List A) (i : ℕ) (x : A) → x ≡ slice_index_or xs i x → i < length xs
       → take (i + 1) xs ≡ take i xs ++ x ∷ []

@@ -4,6 +4,7 @@ use Rattle.std.proofs.Common.{ap, subst, arith}
 use Rattle.std.specs.Global.{Global}
 use Rattle.std.specs.List.{Contains}
 use Rattle.std.proofs.lemmas.Bool.{cases_lt}
+use Rattle.qual_base.proofs.Lists.{stands_at}
 use Rattle.lattice_core.specs.View.{LatticeView}
 use Rattle.sig_writer.specs.declared.nodes.Nodes.{Nodes}
 use Rattle.sig_writer.specs.declared.says.Elements.{Elements}
@@ -14,7 +15,7 @@ use Rattle.sig_writer.specs.Saying.{nothing_said, said_at, says_by, AreElements,
 use Rattle.sig_writer.specs.Saying.{Saying}
 use Rattle.sig_writer.specs.Signatures.{Found, Says, numbers_of, unless}
 use Rattle.sig_writer.proofs.Indices.{index_is, var_place}
-use Rattle.sig_writer.proofs.Sayings.{said_else, said_here, some_at}
+use Rattle.sig_writer.proofs.Sayings.{said_else, said_here}
 
 abbrev says_with : List ℕ → Option ℕ → Option ℕ → Says
 says_with numbers low high = record { numbers = numbers; low = low; high = high }
@@ -45,8 +46,8 @@ module _ (known : Known) (nodes : Nodes) (lists : List (Vec ℕ Global)) (elemen
   said_of v k at lt =
       let one = are_held.numbers_are in
       let two = are_held.elements_are in
-      let list = some_at lists k (omega (arith, lt, one)) in
-      let it = some_at elements k (omega (arith, lt, two)) in (
+      let list = stands_at lists k (omega (arith, lt, one)) in
+      let it = stands_at elements k (omega (arith, lt, two)) in (
         list.0,
         it.0,
         list.1,

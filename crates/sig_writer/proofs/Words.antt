@@ -3,6 +3,7 @@ use Rattle.std.proofs.Common.{◌≡◌, ℕ, nat_eq, Bool, true, false, not, �
 use Rattle.std.specs.List.{filter, flat_map, Contains}
 use Rattle.std.proofs.lemmas.Bool.{and_from, and_parts, eqb-true, eqb-false, ne_eqb, not-true, not_from_false}
 use Rattle.std.proofs.lemmas.List.Elements.{Contains-append_left, Contains-append_right, Contains-append_cases}
+use Rattle.qual_base.proofs.Lists.{place_of}
 use Rattle.flow_graph.specs.declared.constraint.Link.{Link}
 use Rattle.flow_graph.specs.declared.constraint.Link.TheVariants.{Le, Const, Bound}
 use Rattle.flow_graph.specs.declared.constraint.Constraint.{Constraint}
@@ -10,7 +11,7 @@ use Rattle.flow_graph.specs.System.{IsInLattice, Stands}
 use Rattle.split_laws.specs.Splits.{Split, of_part}
 use Rattle.sig_writer.specs.Signatures.{External, Found, nodes_of, numbers_of, says, unless}
 use Rattle.sig_writer.specs.Parts.{are_among, bound_of, const_of, constraint_of, flows_of, words_at, words_for, words_part}
-use Rattle.sig_writer.proofs.Elements.{first_or, here, in_filter, in_flat, in_map, none, of_filter, of_flat, of_map, of_place, place_of}
+use Rattle.sig_writer.proofs.Elements.{first_or, here, in_filter, in_flat, in_map, none, of_filter, of_flat, of_map, of_place}
 
 module _ (it : Found) where
   -- a constant or a bound is written of what is found, where it is not left out

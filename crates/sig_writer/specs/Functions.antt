@@ -34,4 +34,6 @@ external_in units skeletons p = record {
 
 -- the external functions of a program, by its units
 abbrev pub externals_in : List UnitText → Program → List External
-externals_in units p = map (external_in units (numbered_from 0 (starts_of (has_access p.lattices) p.sources))) (functions_in (names_of p.sources))
+externals_in units p =
+    map (external_in units (numbered_from 0 (starts_of (has_access p.lattices) p.sources)))
+    (functions_in (names_of p.sources))

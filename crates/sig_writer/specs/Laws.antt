@@ -20,8 +20,10 @@ use Rattle.sig_writer.specs.Found.{IsFoundAt}
 
 -- whatever is right of the nodes of a library gives one refusal and one text
 abbrev pub OneText : Type 0
-OneText = (sys : System) (lattice : LatticeView) (functions : List External) (one other : Found) → IsLattice lattice.order →
-    IsFoundAt sys 0 lattice.order (flat_map nodes_of functions) one → IsFoundAt sys 0 lattice.order (flat_map nodes_of functions) other →
+OneText =
+    (sys : System) (lattice : LatticeView) (functions : List External) (one other : Found) → IsLattice lattice.order →
+    IsFoundAt sys 0 lattice.order (flat_map nodes_of functions) one
+    → IsFoundAt sys 0 lattice.order (flat_map nodes_of functions) other →
     (first_refusal one lattice functions ≡ first_refusal other lattice functions)
     × (lines_of one lattice functions ≡ lines_of other lattice functions)
 
@@ -33,6 +35,7 @@ OwnedApart = (units : List UnitText) (p : Program) → All IsRead p.sources → 
 -- The external functions at some places are those that the code holds, where its skeletons are the first that begin at
 -- places.
 abbrev pub ExternalsAreHeld : Type 0
-ExternalsAreHeld = (units : List UnitText) (it : Skeletons) (all : List Numbered) (places : List Place) → length it.vars ≤ 2 ^ 24 →
+ExternalsAreHeld =
+    (units : List UnitText) (it : Skeletons) (all : List Numbered) (places : List Place) → length it.vars ≤ 2 ^ 24 →
     ((p : Place) → skel_of it.vars (root_in it p) ≡ skeleton_among all p) →
     map (external_in units all) places ≡ map (external_at units it) places

@@ -38,8 +38,7 @@ marked_up_to (false ∷ marks) zero = 0
 marked_up_to (false ∷ marks) (suc i) = marked_up_to marks i
 
 -- a list has, ascending, the numbers of the marked nodes that are this one or from which a summary leads to it; none
--- where it is not
--- marked
+-- where it is not marked
 pub record IsIndexOf (nodes : Nodes) (rows : List Summary) (marks : List Bool) (j : ℕ) (numbers : List ℕ) : Type 0 where
   pub ascending : AreAscending numbers
   pub are : (n : ℕ) → Contains numbers n ↔ ((i : ℕ) × (slice_get marks i ≡ Some true) × (slice_get marks j ≡ Some true)

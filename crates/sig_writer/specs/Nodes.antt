@@ -2,7 +2,7 @@
 use Rattle.std.specs.Prelude.{◌≡◌, ℕ, zero, suc, ◌-◌, ◌^◌, ◌<◌, ◌≤◌, List, [], ◌∷◌, length, Option, None, Some}
 use Rattle.std.specs.List.{flat_map}
 use Rattle.qual_types.specs.Skel.{Skel, flat, ref, fun, nodes, root, no_skeleton}
-use Rattle.qual_types.specs.declared.row.Row.{Row}
+use Rattle.qual_types.specs.declared.row.VarRow.{VarRow}
 use Rattle.qual_types.specs.Rows.{skel_of}
 use Rattle.name_rules.specs.Spellings.{Place}
 use Rattle.name_tables.specs.PlaceMap.Values.{number_at}
@@ -57,7 +57,8 @@ AreInOrder it = (p : Place) → IsInOrder (skel_by it (number_at it.starts p))
 -- they are where each is that of a type, the first that begins at its place among skeletons one behind the other
 abbrev pub SkeletonsAreInOrder : Type 0
 SkeletonsAreInOrder =
-    (it : Skeletons) (all : List Numbered) → ((p : Place) → skel_of it.vars (root_in it p) ≡ skeleton_among all p) → AreInOrder it
+    (it : Skeletons) (all : List Numbered) → ((p : Place) → skel_of it.vars (root_in it p) ≡ skeleton_among all p)
+    → AreInOrder it
 
 -- ---- the last variable of a skeleton, in pre-order
 
@@ -69,7 +70,7 @@ last_of (fun v ps r None) = last_of r
 last_of (fun v ps r (Some e)) = e
 
 -- that of what stands last in one
-abbrev pub last_in : List Row → Last → ℕ
+abbrev pub last_in : List VarRow → Last → ℕ
 last_in rows (Var v) = v
 last_in rows (Part n) = last_of (skel_of rows n)
 

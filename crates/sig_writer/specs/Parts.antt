@@ -1,6 +1,5 @@
 -- What the words of signatures stand for: constraints on the nodes of external functions. With any client they are
--- accepted exactly
--- where the library is.
+-- accepted exactly where the library is.
 use Rattle.std.specs.Prelude.{◌≡◌, ℕ, ◌<◌, nat_eq, Bool, true, not, ◌&&◌, ◌↔◌, ◌⊎◌, List, [], ◌∷◌, ◌++◌, map, Option, None, Some}
 use Rattle.std.specs.List.{filter, flat_map, list_all, list_any, Contains}
 use Rattle.qual_base.specs.declared.places.Owner.TheVariants.{Function}
@@ -81,8 +80,7 @@ IsLibrarys sys nodes f =
     × (((n : ℕ) × (link : Link) × Has sys n link × HasVar link v) ⊎ Contains nodes v)
 
 -- A split of which the library is this system and the words are those of its signatures. The client has any
--- constraints, over further
--- sites and variables, that meet the library at its nodes alone.
+-- constraints, over further sites and variables, that meet the library at its nodes alone.
 pub record IsSplitOf (sys : System) (it : Found) (functions : List External) (s : Split) : Type 0 where
   pub library : s.library ≡ sys.constraints
   pub words : s.words ≡ words_part it functions

@@ -14,10 +14,8 @@ use Rattle.name_rules.specs.Spellings.{Place}
 use Rattle.annotate.specs.Texts.{line, name_in}
 
 -- What is found of the variables of a library in its lattice: the join of the constants that come to a variable with no
--- call open, the
--- meet of the bounds that it leads to by flows, groups and calls, and whether a matched path of one or more parts leads
--- from one to
--- another; and the least and the greatest element.
+-- call open, the meet of the bounds that it leads to by flows, groups and calls, and whether a matched path of one or
+-- more parts leads from one to another; and the least and the greatest element.
 pub record Found : Type 0 where
   pub join : ℕ → ℕ
   pub meet : ℕ → ℕ
@@ -253,7 +251,8 @@ pub data Refusal : Type 0 where
 -- why a function has no signature, where it has none
 abbrev pub refusal_of : Found → LatticeView → External → Option Refusal
 refusal_of it lattice f =
-    if is_unplaced it f then Some (NoPlace f.place) else if is_unsigned it lattice f then Some (NoWord f.place) else None
+    if is_unplaced it f then Some (NoPlace f.place) else if is_unsigned it lattice f
+    then Some (NoWord f.place) else None
 
 -- the first of two refusals that is there
 abbrev pub or_refusal : Option Refusal → Option Refusal → Option Refusal

@@ -22,7 +22,8 @@ pub record IsWritten (sys : System) (lattice : LatticeView) (functions : List Ex
   pub serves : Serves sys lattice.order it functions
 
 -- a function of a library has no signature, for this reason and as the first such one
-pub record IsRefused (sys : System) (lattice : LatticeView) (functions : List External) (refusal : Refusal) : Type 0 where
+pub record IsRefused (sys : System) (lattice : LatticeView) (functions : List External)
+    (refusal : Refusal) : Type 0 where
   pub it : Found
   pub found : IsFoundIn sys lattice functions it
   pub some : first_refusal it lattice functions ≡ Some refusal

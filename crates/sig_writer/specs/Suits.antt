@@ -1,6 +1,5 @@
 -- Which libraries may have signatures: those over one lattice of values through which nothing passes by pointers or
--- fields, of which
--- no constraint has a variable of nobody.
+-- fields, of which no constraint has a variable of nobody.
 use Rattle.std.specs.Prelude.{◌≡◌, ℕ, ◌<◌, ◌⊎◌, List, [], ◌∷◌, Some}
 use Rattle.qual_base.specs.declared.places.Owner.TheVariants.{Nobody}
 use Rattle.lattice_core.specs.declared.Level.TheVariants.{Value}

@@ -34,7 +34,8 @@ selected_apart : (w : World) (token i n : ℕ) (st : State) (r : Rounds) →
     selected w token i n (record st { rounds = r }) ≡ selected w token i n st
 selected_apart w token i zero st r = refl
 selected_apart w token i (suc n) st r =
-    ap (λ (others : List Candidate). (if w.candidate (at w token) i then candidate_at (twice n) st ∷ [] else []) ++ others)
+    ap (λ (others : List Candidate).
+    (if w.candidate (at w token) i then candidate_at (twice n) st ∷ [] else []) ++ others)
     (selected_apart w token (suc i) n st r)
 
 -- an op of expressions steps the stacks the same with other rounds, which stay

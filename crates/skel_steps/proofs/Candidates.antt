@@ -1,6 +1,6 @@
 -- What is kept of the candidates of a pick, with one more behind them, and what is read from it.
 use Rattle.std.proofs.Common.{◌≡◌, ◌∙◌, sym, ap, refl, ℕ, suc, ◌+◌, ◌-◌, ◌<◌, ◌≤◌, arith, Bool, true, false, if◌then◌else◌, List, [], ◌∷◌, ◌++◌, append-nil, append_assoc}
-use Rattle.qual_types.specs.declared.row.Row.{Row}
+use Rattle.qual_types.specs.declared.row.VarRow.{VarRow}
 use Rattle.qual_types.specs.Skel.{Skel}
 use Rattle.row_rules.specs.Worlds.{World, at}
 use Rattle.row_rules.specs.Vals.{Val, Candidate, a_value, value, no_zeros, or_all, left_of, value_of_left, pick_of}
@@ -49,10 +49,11 @@ other_more (it ∷ others) c e = by (other_more others c e) it.is_zero where
 first_added : (all : List Candidate) (c : Candidate) (count : Count) (old new : Val) → count ≡ count_of all →
     old ≡ first_val all → new ≡ first_by count old c.val → new ≡ first_val (all ++ c ∷ [])
 first_added all c count old new count_is old_is is =
-    is ∙ ap (λ n. first_by n old c.val) count_is ∙ ap (λ v. first_by (count_of all) v c.val) old_is ∙ sym (first_more all c)
+    is ∙ ap (λ n. first_by n old c.val) count_is ∙ ap (λ v. first_by (count_of all) v c.val) old_is
+    ∙ sym (first_more all c)
 
 -- one more that is a zero
-pub zero_added : (rows : List Row) (all : List Candidate) (c : Candidate) (old new : PickedVal)
+pub zero_added : (rows : List VarRow) (all : List Candidate) (c : Candidate) (old new : PickedVal)
     → IsPickedVal rows all old →
     c.is_zero ≡ true → new.count ≡ more_than old.count →
     val_in rows new.first ≡ first_by old.count (val_in rows old.first) c.val → new.others ≡ old.others →
@@ -66,7 +67,7 @@ zero_added rows all c old new h is_zero count first others first_other =
     }
 
 -- one more that is none
-pub other_added : (rows : List Row) (all : List Candidate) (c : Candidate) (old new : PickedVal)
+pub other_added : (rows : List VarRow) (all : List Candidate) (c : Candidate) (old new : PickedVal)
     → IsPickedVal rows all old →
     c.is_zero ≡ false → new.count ≡ more_than old.count →
     val_in rows new.first ≡ first_by old.count (val_in rows old.first) c.val → new.others ≡ more_than old.others →
@@ -75,7 +76,8 @@ pub other_added : (rows : List Row) (all : List Candidate) (c : Candidate) (old 
 other_added rows all c old new h other count first others first_other =
     record {
       count = count ∙ ap more_than h.count ∙ sym (one_more all c);
-      others = others ∙ ap more_than h.others ∙ sym (one_more (no_zeros all) c) ∙ ap count_of (sym (other_more all c other));
+      others =
+          others ∙ ap more_than h.others ∙ sym (one_more (no_zeros all) c) ∙ ap count_of (sym (other_more all c other));
       first = first_added all c old.count (val_in rows old.first) (val_in rows new.first) h.count h.first first;
       first_other =
           first_added (no_zeros all) c old.others (val_in rows old.first_other) (val_in rows new.first_other) h.others
@@ -98,7 +100,7 @@ fresh_left all = by (no_zeros all) where
   by (it ∷ []) = refl
   by (it ∷ other ∷ others) = refl
 
-pub fresh_is : (rows : List Row) (all : List Candidate) (it : PickedVal) (b : Bool) → IsPickedVal rows all it →
+pub fresh_is : (rows : List VarRow) (all : List Candidate) (it : PickedVal) (b : Bool) → IsPickedVal rows all it →
     b ≡ fresh_by it.others it.count → b ≡ is_several (left_of all)
 fresh_is rows all it b h is =
     is ∙ ap (λ n. fresh_by n it.count) h.others ∙ ap (fresh_by (count_of (no_zeros all))) h.count ∙ fresh_left all
@@ -123,7 +125,7 @@ pick_is own first first_other (it ∷ other ∷ others) is other_is =
     ap a_value (value_left own first_other (no_zeros (it ∷ other ∷ others)) it other others other_is)
 
 -- what is picked by what is kept of the candidates is what is picked of all
-pub picked_is : (rows : List Row) (all : List Candidate) (it : PickedVal) (own : Skel) → IsPickedVal rows all it →
+pub picked_is : (rows : List VarRow) (all : List Candidate) (it : PickedVal) (own : Skel) → IsPickedVal rows all it →
     pick_by it.count it.others own (val_in rows it.first) (val_in rows it.first_other) ≡ pick_of own all
 picked_is rows all it own h =
     ap (λ n. pick_by n it.others own (val_in rows it.first) (val_in rows it.first_other)) h.count ∙
@@ -142,8 +144,10 @@ next_at : (w : World) (token i n : ℕ) (st : State) (all : List Candidate) →
     with_candidate (w.candidate (at w token) i) all (candidate_at (twice n) st) ++ selected w token (suc i) n st ≡
     all ++ selected w token i (suc n) st
 next_at w token i n st all =
-    ap (λ (xs : List Candidate). xs ++ selected w token (suc i) n st) (with_is (w.candidate (at w token) i) all (candidate_at (twice n) st)) ∙
-    append_assoc all (if w.candidate (at w token) i then candidate_at (twice n) st ∷ [] else []) (selected w token (suc i) n st)
+    ap (λ (xs : List Candidate). xs ++ selected w token (suc i) n st)
+    (with_is (w.candidate (at w token) i) all (candidate_at (twice n) st)) ∙
+    append_assoc all (if w.candidate (at w token) i then candidate_at (twice n) st ∷ [] else [])
+    (selected w token (suc i) n st)
 
 -- with the association of a number, of so many, behind those before it
 pub selected_next : (w : World) (token i count : ℕ) (st : State) (all : List Candidate) → i < count →

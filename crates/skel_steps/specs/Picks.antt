@@ -1,6 +1,6 @@
 -- What is kept of the candidates of a pick.
 use Rattle.std.specs.Prelude.{◌≡◌, Bool, true, false, List, [], ◌∷◌, ◌++◌}
-use Rattle.qual_types.specs.declared.row.Row.{Row}
+use Rattle.qual_types.specs.declared.row.VarRow.{VarRow}
 use Rattle.qual_types.specs.Skel.{Skel, no_skeleton}
 use Rattle.row_rules.specs.Vals.{Val, Candidate, a_value, no_zeros, value}
 use Rattle.row_world.specs.declared.operand.Operand.{Operand}
@@ -10,7 +10,7 @@ use Rattle.skel_steps.specs.declared.picks.Count.TheVariants as counts
 use Rattle.skel_steps.specs.declared.picks.PickedVal.{PickedVal}
 
 -- an expression that may be picked, with its skeleton in place of that one's number
-abbrev pub candidate_in : List Row → Operand → Bool → Candidate
+abbrev pub candidate_in : List VarRow → Operand → Bool → Candidate
 candidate_in rows it is_zero = record { val = val_in rows it; is_zero = is_zero }
 
 -- the first candidate, a value without a skeleton where there is none
@@ -37,7 +37,7 @@ first_by counts.One first it = first
 first_by counts.Several first it = first
 
 -- the counts, and the first one, of all and of those that are no zeros
-pub record IsPickedVal (rows : List Row) (all : List Candidate) (it : PickedVal) : Type 0 where
+pub record IsPickedVal (rows : List VarRow) (all : List Candidate) (it : PickedVal) : Type 0 where
   pub count : it.count ≡ count_of all
   pub others : it.others ≡ count_of (no_zeros all)
   pub first : val_in rows it.first ≡ first_val all

@@ -1,7 +1,7 @@
 //! Expressions with a type name or a block, and the GNU forms.
 
 ghost use Rattle.std.specs.Prelude.{◌≡◌, ◌&&◌, ℕ, List, OnOk, option_map};
-ghost use Rattle.type_table.specs.declared.row.Row as row;
+ghost use Rattle.type_table.specs.declared.row.TypeRow as row;
 ghost use Rattle.type_table.specs.Rows.{type_of};
 ghost use Rattle.tape_ops.specs.declared.form.FormOp.TheVariants as forms;
 ghost use Rattle.name_rules.specs.Values.{is_plain_void_pointer};
@@ -22,7 +22,7 @@ use type_table::TypeTable;
 
 /// The value of a type that was named.
 fn value_of(ty: &Option<TypeId>) -> Option<ValueType>
-    ensures { (rows : List row.Row) → some_value_type rows result
+    ensures { (rows : List row.TypeRow) → some_value_type rows result
         ≡ option_map (type_of rows) ty.now }
 {
     match ty {

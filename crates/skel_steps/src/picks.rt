@@ -2,7 +2,7 @@
 
 ghost use Rattle.std.specs.Prelude.{◌≡◌, ◌<◌, ◌-◌, ◌∷◌, ◌++◌, [], ℕ, suc, List, OnOk};
 ghost use Rattle.tape_ops.specs.declared.form.FormOp.TheVariants as forms;
-ghost use Rattle.qual_types.specs.declared.row.Row as row;
+ghost use Rattle.qual_types.specs.declared.row.VarRow as row;
 ghost use Rattle.name_rules.specs.ShapeSteps.Steps.{twice};
 ghost use Rattle.row_rules.specs.Worlds.{World};
 ghost use Rattle.row_rules.specs.Vals as vals;
@@ -35,7 +35,7 @@ fn more(count: Count) -> Count
 
 /// The first of so many, behind one more.
 fn first(count: Count, first: &Operand, it: &Operand) -> Operand
-    ensures { (rows : List row.Row) → val_in rows result
+    ensures { (rows : List row.VarRow) → val_in rows result
         ≡ first_by count (val_in rows first.now) (val_in rows it.now) }
 {
     match count {
@@ -89,8 +89,8 @@ impl PickedVal {
 
     /// One more candidate. Constant time.
     fn add(&mut self, val: &Operand, is_zero: bool)
-        ensures { (rows : List row.Row) (all : List vals.Candidate) → IsPickedVal rows all self.old
-            → IsPickedVal rows (all ++ candidate_in rows val.now is_zero ∷ []) self.new }
+        ensures { (rows : List row.VarRow) (all : List vals.Candidate) → IsPickedVal rows all
+            self.old → IsPickedVal rows (all ++ candidate_in rows val.now is_zero ∷ []) self.new }
     {
         self.first = first(self.count, &self.first, val);
         self.count = more(self.count);
@@ -102,8 +102,8 @@ impl PickedVal {
 
     /// Whether several candidates are left, so that the pick has a value of its own. Constant time.
     pub fn is_fresh(&self) -> bool
-        ensures { (rows : List row.Row) (all : List vals.Candidate) → IsPickedVal rows all self.now
-            → result ≡ is_several (vals.left_of all) }
+        ensures { (rows : List row.VarRow) (all : List vals.Candidate) → IsPickedVal rows all
+            self.now → result ≡ is_several (vals.left_of all) }
     {
         fresh(self.others, self.count)
     }

@@ -12,13 +12,16 @@ use Rattle.spec_forms.specs.Forms.{enum_item, member_item}
 
 pub enumerators_same : (es : List Enumerator) → parts.enumerators_from (map enum_item es) ≡ enumerators_from es
 enumerators_same [] = refl
-enumerators_same (e ∷ es) = ap (λ (es : Enumerators). more_enumerators e.name e.attrs.items (some_value_from e.value) es) (enumerators_same es)
+enumerators_same (e ∷ es) =
+    ap (λ (es : Enumerators). more_enumerators e.name e.attrs.items (some_value_from e.value) es) (enumerators_same es)
 
 pub members_same : (ds : List (Listed RustMemDeclr)) → parts.mem_declrs_from (map member_item ds) ≡ mem_declrs_from ds
 members_same [] = refl
-members_same (d ∷ ds) = ap (λ (ds : MemDeclrs). more_mem_declrs d.attrs.items (mem_declr_of d.item) ds) (members_same ds)
+members_same (d ∷ ds) =
+    ap (λ (ds : MemDeclrs). more_mem_declrs d.attrs.items (mem_declr_of d.item) ds) (members_same ds)
 
 pub items_same : (items : List RustStructItem)
     → parts.struct_items_from (map struct_item_of items) ≡ struct_items_from items
 items_same [] = refl
-items_same (item ∷ items) = ap (λ (items : StructItems). more_struct_items (struct_item_of item) items) (items_same items)
+items_same (item ∷ items) =
+    ap (λ (items : StructItems). more_struct_items (struct_item_of item) items) (items_same items)

@@ -19,7 +19,8 @@ either_way true rest = refl
 either_way false rest = refl
 
 typedef_first : (w : SpecWord) (ws : SpecWords)
-    → has_typedef_word (storage_words (more_words w ws)) ≡ (if stores_type w then true else has_typedef_word (storage_words ws))
+    → has_typedef_word (storage_words (more_words w ws))
+    ≡ (if stores_type w then true else has_typedef_word (storage_words ws))
 typedef_first (storage w) ws = either_way (is_typedef_word w.keyword) (has_typedef_word (storage_words ws))
 typedef_first w ws = refl
 
@@ -29,9 +30,11 @@ has_typedef_in words = has_typedef_word (storage_words (spec_words_from words))
 -- whether `typedef` stands from a word on
 pub typedef_from : (words : List rust_spec_word.SpecWord) (n : ℕ) (word : rust_spec_word.SpecWord) → n < length words
     → word ≡ get_or words n word →
-    has_typedef_in (drop n words) ≡ (if has_typedef_word (storage_words (more_words (spec_word_of word) no_words)) then true else has_typedef_in (drop (suc n) words))
+    has_typedef_in (drop n words) ≡ (if has_typedef_word (storage_words (more_words (spec_word_of word) no_words))
+    then true else has_typedef_in (drop (suc n) words))
 typedef_from words n word within is =
-    ap has_typedef_in (drop-cons words n word within) ∙ rw (← is) (typedef_first (spec_word_of word) (spec_words_from (drop (suc n) words)))
+    ap has_typedef_in (drop-cons words n word within)
+    ∙ rw (← is) (typedef_first (spec_word_of word) (spec_words_from (drop (suc n) words)))
 
 or_through : (test rest last : Bool) → (if test then true else (rest || last)) ≡ ((if test then true else rest) || last)
 or_through true rest last = refl
@@ -39,7 +42,8 @@ or_through false rest last = refl
 
 -- with one more word `typedef` stands, or it is that word
 pub typedef_pushed : (ws : SpecWords) (w : SpecWord) →
-    has_typedef_word (storage_words (pushed ws w)) ≡ (has_typedef_word (storage_words ws) || has_typedef_word (storage_words (more_words w no_words)))
+    has_typedef_word (storage_words (pushed ws w))
+    ≡ (has_typedef_word (storage_words ws) || has_typedef_word (storage_words (more_words w no_words)))
 typedef_pushed no_words w = refl
 typedef_pushed (more_words first ws) w =
     typedef_first first (pushed ws w)

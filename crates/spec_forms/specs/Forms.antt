@@ -30,7 +30,7 @@ use Rattle.c_reading.specs.Knot.{knot}
 use Rattle.c_reading.specs.Specifying.{word_by, word_with, word_turn, specs_with, enumerator_behind, enumerator_named, enumerator_with, next_enumerator, enumerators_with, enum_body_with, enum_with, width_with, field_with, mem_declr_with, first_member, next_member, mem_declrs_with, member_with, struct_item_with, members_with, body_with, struct_with}
 use Rattle.c_reading.specs.Turns.{no_close_brace}
 use Rattle.reader_base.specs.declared.fault.ReadError.{ReadError}
-use Rattle.reader_base.specs.declared.place.Place.{Place}
+use Rattle.reader_base.specs.declared.cursor.Cursor.{Cursor}
 use Rattle.reader_base.specs.Gives.{Reads}
 use Rattle.reader_base.specs.Lent.{sized_specs}
 use Rattle.spec_forms.specs.declared.mixed.Mixed.{Mixed}
@@ -40,18 +40,18 @@ use Rattle.spec_forms.specs.declared.enums.EnumList.{EnumList}
 abbrev pub words_in : Mixed → SpecWords
 words_in m = sized_specs m.words
 
--- what readers answer, at a place
+-- what readers answer, at a cursor
 
 -- a word of specifiers is read as the reader of lists gives it
-abbrev pub ReadsWord : Place → Place → Result SizedWord ReadError → Reader SpecWord → Type 0
+abbrev pub ReadsWord : Cursor → Cursor → Result SizedWord ReadError → Reader SpecWord → Type 0
 ReadsWord before after result reader = Reads (λ x. spec_word_of x.word) before after result reader
 
 -- the words so far, with those that were read, are what the reader of lists gives
-abbrev pub ReadsMixed : Mixed → Place → Place → Result (Unit {0}) ReadError → Reader SpecWords → Type 0
+abbrev pub ReadsMixed : Mixed → Cursor → Cursor → Result (Unit {0}) ReadError → Reader SpecWords → Type 0
 ReadsMixed mixed before after result reader = Reads (λ _. words_in mixed) before after result reader
 
 -- a width or a value with the sign before it, if any, is read so
-abbrev pub ReadsValue : Place → Place → Result SizedValue ReadError → Reader SomeValue → Type 0
+abbrev pub ReadsValue : Cursor → Cursor → Result SizedValue ReadError → Reader SomeValue → Type 0
 ReadsValue before after result reader = Reads (λ x. some_value_from x.value) before after result reader
 
 -- an enumerator with its attributes and value
@@ -59,7 +59,7 @@ abbrev pub enum_item : Enumerator → EnumItem
 enum_item e = record { name = e.name; attrs = e.attrs.items; value = some_value_from e.value }
 
 -- an enumerator is read so
-abbrev pub ReadsEnumerator : Place → Place → Result SizedEnumerator ReadError → Reader EnumItem → Type 0
+abbrev pub ReadsEnumerator : Cursor → Cursor → Result SizedEnumerator ReadError → Reader EnumItem → Type 0
 ReadsEnumerator before after result reader = Reads (λ x. enum_item (enumerator_of x)) before after result reader
 
 -- enumerators so far, and the comma that ended their list
@@ -67,20 +67,20 @@ abbrev pub enum_list : EnumList → CommaList EnumItem ℕ
 enum_list l = record { items = map enum_item l.items.items.items; ending = l.ending }
 
 -- the list of enumerators, with those that were read, is what the reader of lists gives
-abbrev pub ReadsEnumList : EnumList → Place → Place → Result (Unit {0}) ReadError → Reader (CommaList EnumItem ℕ)
+abbrev pub ReadsEnumList : EnumList → Cursor → Cursor → Result (Unit {0}) ReadError → Reader (CommaList EnumItem ℕ)
     → Type 0
 ReadsEnumList l before after result reader = Reads (λ _. enum_list l) before after result reader
 
 -- a list of enumerators is read so
-abbrev pub ReadsEnums : Place → Place → Result EnumList ReadError → Reader (CommaList EnumItem ℕ) → Type 0
+abbrev pub ReadsEnums : Cursor → Cursor → Result EnumList ReadError → Reader (CommaList EnumItem ℕ) → Type 0
 ReadsEnums before after result reader = Reads enum_list before after result reader
 
 -- the body of an enumeration, if any, is read so
-abbrev pub ReadsEnumBody : Place → Place → Result SizedEnumBody ReadError → Reader SomeEnumBody → Type 0
+abbrev pub ReadsEnumBody : Cursor → Cursor → Result SizedEnumBody ReadError → Reader SomeEnumBody → Type 0
 ReadsEnumBody before after result reader = Reads (λ x. some_enum_body_from x.body) before after result reader
 
 -- a member's declarator is read so
-abbrev pub ReadsMemDeclr : Place → Place → Result SizedMemDeclr ReadError → Reader MemDeclr → Type 0
+abbrev pub ReadsMemDeclr : Cursor → Cursor → Result SizedMemDeclr ReadError → Reader MemDeclr → Type 0
 ReadsMemDeclr before after result reader = Reads (λ x. mem_declr_of x.declr) before after result reader
 
 -- a member's declarator, with the attributes before it
@@ -92,7 +92,7 @@ abbrev pub listed_item : SizedMember → MemberItem
 listed_item x = record { attrs = x.attrs.items; declr = mem_declr_of x.declr }
 
 -- a member's declarator with the attributes before it is read so
-abbrev pub ReadsMember : Place → Place → Result SizedMember ReadError → Reader MemberItem → Type 0
+abbrev pub ReadsMember : Cursor → Cursor → Result SizedMember ReadError → Reader MemberItem → Type 0
 ReadsMember before after result reader = Reads listed_item before after result reader
 
 -- declarators of a member's declaration so far
@@ -100,16 +100,16 @@ abbrev pub member_list : SizedMembers → CommaList MemberItem ⊥
 member_list l = record { items = map member_item l.items.items; ending = None }
 
 -- the list of declarators, with those that were read, is what the reader of lists gives
-abbrev pub ReadsMemberList : SizedMembers → Place → Place → Result (Unit {0}) ReadError
+abbrev pub ReadsMemberList : SizedMembers → Cursor → Cursor → Result (Unit {0}) ReadError
     → Reader (CommaList MemberItem ⊥) → Type 0
 ReadsMemberList l before after result reader = Reads (λ _. member_list l) before after result reader
 
 -- the declarators of a member's declaration are read so
-abbrev pub ReadsMembers : Place → Place → Result SizedMembers ReadError → Reader (List MemberItem) → Type 0
+abbrev pub ReadsMembers : Cursor → Cursor → Result SizedMembers ReadError → Reader (List MemberItem) → Type 0
 ReadsMembers before after result reader = Reads (λ x. map member_item x.items.items) before after result reader
 
 -- a member's declaration is read so
-abbrev pub ReadsStructItem : Place → Place → Result SizedStructItem ReadError → Reader StructItem → Type 0
+abbrev pub ReadsStructItem : Cursor → Cursor → Result SizedStructItem ReadError → Reader StructItem → Type 0
 ReadsStructItem before after result reader = Reads (λ x. struct_item_of x.item) before after result reader
 
 -- the trees of members so far
@@ -117,16 +117,17 @@ abbrev pub struct_items : SizedStructItems → List StructItem
 struct_items l = map struct_item_of l.items.items
 
 -- the list of members, with those that were read, is what the reader of lists gives
-abbrev pub ReadsStructItems : SizedStructItems → Place → Place → Result (Unit {0}) ReadError → Reader (List StructItem)
+abbrev pub ReadsStructItems : SizedStructItems → Cursor → Cursor → Result (Unit {0}) ReadError
+    → Reader (List StructItem)
     → Type 0
 ReadsStructItems l before after result reader = Reads (λ _. struct_items l) before after result reader
 
 -- the members of a struct or union are read so
-abbrev pub ReadsItems : Place → Place → Result SizedStructItems ReadError → Reader (List StructItem) → Type 0
+abbrev pub ReadsItems : Cursor → Cursor → Result SizedStructItems ReadError → Reader (List StructItem) → Type 0
 ReadsItems before after result reader = Reads struct_items before after result reader
 
 -- the body of a struct or union, if any, is read so
-abbrev pub ReadsBody : Place → Place → Result SizedBody ReadError → Reader SomeBody → Type 0
+abbrev pub ReadsBody : Cursor → Cursor → Result SizedBody ReadError → Reader SomeBody → Type 0
 ReadsBody before after result reader = Reads (λ x. some_body_from x.body) before after result reader
 
 -- words
@@ -138,7 +139,8 @@ word_at depth start room s ts = word_by (knot depth) start room s ts
 -- the words with one more that begins so
 abbrev pub words_with : ℕ → Role → SpecStart → Mixed → ℕ → Reader SpecWords
 words_with depth role start words room s ts =
-    word_with (knot depth) role (words_in words) start room s ts >>= λ word. ends (pushed (words_in words) word.tree) word.scopes word.rest
+    word_with (knot depth) role (words_in words) start room s ts >>= λ word.
+    ends (pushed (words_in words) word.tree) word.scopes word.rest
 
 -- the words with as many more as stand
 abbrev pub words_at : ℕ → Role → Mixed → ℕ → Reader SpecWords
@@ -154,7 +156,8 @@ specs_at depth role known room s ts = specs_with (knot depth) role known room s 
 abbrev pub value_at : ℕ → Bool → ℕ → Reader SomeValue
 value_at depth stands room s ts =
     if stands
-    then fits 2 room ts (take_one s ts >>= λ token. (knot depth).expr Conditional nothing (room - 1) token.scopes token.rest >>= λ e.
+    then fits 2 room ts (take_one s ts >>= λ token.
+    (knot depth).expr Conditional nothing (room - 1) token.scopes token.rest >>= λ e.
     ends (some_value token.tree e.tree) e.scopes e.rest)
     else ends no_value s ts
 
@@ -175,7 +178,8 @@ enumerator_at depth room s ts = enumerator_with (knot depth) room s ts
 -- behind a comma with this number
 abbrev pub behind_comma : ℕ → ℕ → EnumList → ℕ → Reader (CommaList EnumItem ℕ)
 behind_comma depth comma known room s ts =
-    next_enumerator (knot depth) room comma s ts >>= λ x. ends (with_next (enum_list known).items x.tree) x.scopes x.rest
+    next_enumerator (knot depth) room comma s ts >>= λ x.
+    ends (with_next (enum_list known).items x.tree) x.scopes x.rest
 
 -- one more enumerator, or the end of the list, behind a comma
 unfoldable pub enumerator_turn : ℕ → ℕ → Turn (CommaList EnumItem ℕ)

@@ -9,13 +9,13 @@ ghost use Rattle.spec_forms.specs.Forms.{behind_name, named_at, enumerator_at, b
 
 use crate::values::value;
 use c_nodes::{SizedEnumBody, SizedEnumerator, SizedEnumerators, SizedWord};
-use c_reading::{Fault, turns_take_tokens};
+use c_reading::{FaultKind, turns_take_tokens};
 use c_syntax::Identifier;
 use c_tree::Lexeme;
 use decl_nodes::{enum_type, enumerator, no_enum_body, some_enum_body};
 use qual_base::TokenId;
 use reader_base::{
-    Answer, Ask, Place, ReadError, attrs, close_brace, is_close_brace, is_comma, is_equal,
+    Answer, Ask, Cursor, ReadError, attrs, close_brace, is_close_brace, is_comma, is_equal,
     is_open_brace, kind_at, name, refused, room_for, tag, take_one,
 };
 use typedef_scope::Kind;
@@ -33,18 +33,18 @@ fn enumerator_behind<'a, F>(
     lent: &F,
     name: Identifier,
     room: u16,
-    place: &mut Place<'a>,
+    cursor: &mut Cursor<'a>,
     depth: u32,
 ) -> Result<SizedEnumerator, ReadError>
 where
-    F: Fn(Ask, &mut Place<'a>) -> Result<Answer, ReadError>,
+    F: Fn(Ask, &mut Cursor<'a>) -> Result<Answer, ReadError>,
     requires { Lends F.Fn lent.now depth }
-    ensures { ReadsEnumerator place.old place.new result (behind_name depth name room) }
+    ensures { ReadsEnumerator cursor.old cursor.new result (behind_name depth name room) }
 {
-    let attrs = attrs(room, place)?;
-    let value = value(lent, is_equal(kind_at(place.rest)), room, place, depth)?;
-    if !place.scopes.declare(name.name, Kind::Constant)? {
-        return Err(refused(Fault::Redeclared, place.rest));
+    let attrs = attrs(room, cursor)?;
+    let value = value(lent, is_equal(kind_at(cursor.rest)), room, cursor, depth)?;
+    if !cursor.scopes.declare(name.name, Kind::Constant)? {
+        return Err(refused(FaultKind::Redeclared, cursor.rest));
     }
     Ok(enumerator(name, attrs, value))
 }
@@ -57,24 +57,24 @@ fn enumerator_named<'a, F>(
     name: Identifier,
     at: &[Lexeme],
     room: u16,
-    place: &mut Place<'a>,
+    cursor: &mut Cursor<'a>,
     depth: u32,
 ) -> Result<SizedEnumerator, ReadError>
 where
-    F: Fn(Ask, &mut Place<'a>) -> Result<Answer, ReadError>,
+    F: Fn(Ask, &mut Cursor<'a>) -> Result<Answer, ReadError>,
     requires { Lends F.Fn lent.now depth }
-    ensures { ReadsEnumerator place.old place.new result (named_at depth name at.now room) }
+    ensures { ReadsEnumerator cursor.old cursor.new result (named_at depth name at.now room) }
 {
-    if !place.scopes.may_declare(name.name, Kind::Constant) {
-        return Err(refused(Fault::Redeclared, at));
+    if !cursor.scopes.may_declare(name.name, Kind::Constant) {
+        return Err(refused(FaultKind::Redeclared, at));
     }
-    if place.scopes.holds(name.name) {
-        return Err(refused(Fault::Unexpected, at));
+    if cursor.scopes.holds(name.name) {
+        return Err(refused(FaultKind::Unexpected, at));
     }
     if room < 1 {
-        return Err(refused(Fault::TooDeep, at));
+        return Err(refused(FaultKind::TooDeep, at));
     }
-    enumerator_behind(lent, name, room, place, depth)
+    enumerator_behind(lent, name, room, cursor, depth)
 }
 
 /// `Enumerator = Name Attr* [= cond]`.
@@ -82,17 +82,17 @@ where
 fn enumerator_here<'a, F>(
     lent: &F,
     room: u16,
-    place: &mut Place<'a>,
+    cursor: &mut Cursor<'a>,
     depth: u32,
 ) -> Result<SizedEnumerator, ReadError>
 where
-    F: Fn(Ask, &mut Place<'a>) -> Result<Answer, ReadError>,
+    F: Fn(Ask, &mut Cursor<'a>) -> Result<Answer, ReadError>,
     requires { Lends F.Fn lent.now depth }
-    ensures { ReadsEnumerator place.old place.new result (enumerator_at depth room) }
+    ensures { ReadsEnumerator cursor.old cursor.new result (enumerator_at depth room) }
 {
-    let at = place.rest;
-    let name = name(place)?;
-    enumerator_named(lent, name, at, room, place, depth)
+    let at = cursor.rest;
+    let name = name(cursor)?;
+    enumerator_named(lent, name, at, room, cursor, depth)
 }
 
 /// One enumerator more behind a comma, or the end of the list.
@@ -102,21 +102,21 @@ fn push_enumerator<'a, F>(
     comma: TokenId,
     known: &mut EnumList,
     room: u16,
-    place: &mut Place<'a>,
+    cursor: &mut Cursor<'a>,
     depth: u32,
 ) -> Result<(), ReadError>
 where
-    F: Fn(Ask, &mut Place<'a>) -> Result<Answer, ReadError>,
+    F: Fn(Ask, &mut Cursor<'a>) -> Result<Answer, ReadError>,
     requires lent { Lends F.Fn lent.now depth }
     requires open { known.old.ending ≡ None }
-    ensures { ReadsEnumList known.new place.old place.new result
+    ensures { ReadsEnumList known.new cursor.old cursor.new result
         (behind_comma depth comma known.old room) }
 {
-    if is_close_brace(kind_at(place.rest)) {
+    if is_close_brace(kind_at(cursor.rest)) {
         known.ending = Some(comma);
         return Ok(());
     }
-    let next = enumerator_here(lent, room, place, depth)?;
+    let next = enumerator_here(lent, room, cursor, depth)?;
     known.items.push(next)?;
     Ok(())
 }
@@ -127,27 +127,27 @@ fn enumerator_turn<'a, F>(
     lent: &F,
     known: &mut EnumList,
     room: u16,
-    place: &mut Place<'a>,
+    cursor: &mut Cursor<'a>,
     depth: u32,
 ) -> Result<bool, ReadError>
 where
-    F: Fn(Ask, &mut Place<'a>) -> Result<Answer, ReadError>,
+    F: Fn(Ask, &mut Cursor<'a>) -> Result<Answer, ReadError>,
     requires { Lends F.Fn lent.now depth }
-    ensures { Turns (enum_list known.old) (enum_list known.new) place.old place.new result
+    ensures { Turns (enum_list known.old) (enum_list known.new) cursor.old cursor.new result
         (enumerator_turn depth room) }
 {
     match known.ending {
         Some(_) => return Ok(false),
         None => {}
     }
-    let [first, rest @ ..] = place.rest else {
+    let [first, rest @ ..] = cursor.rest else {
         return Ok(false);
     };
     if !is_comma(first.kind) {
         return Ok(false);
     }
-    place.rest = rest;
-    push_enumerator(lent, first.at, known, room, place, depth)?;
+    cursor.rest = rest;
+    push_enumerator(lent, first.at, known, room, cursor, depth)?;
     Ok(true)
 }
 
@@ -163,16 +163,16 @@ fn more_enumerators<'a, F>(
     lent: &F,
     known: &mut EnumList,
     room: u16,
-    place: &mut Place<'a>,
+    cursor: &mut Cursor<'a>,
     depth: u32,
 ) -> Result<(), ReadError>
 where
-    F: Fn(Ask, &mut Place<'a>) -> Result<Answer, ReadError>,
+    F: Fn(Ask, &mut Cursor<'a>) -> Result<Answer, ReadError>,
     requires { Lends F.Fn lent.now depth }
-    ensures { ReadsEnumList known.new place.old place.new result (more_at depth known.old room) }
+    ensures { ReadsEnumList known.new cursor.old cursor.new result (more_at depth known.old room) }
 {
     enumerators_step(room, depth);
-    while enumerator_turn(lent, known, room, place, depth)? {}
+    while enumerator_turn(lent, known, room, cursor, depth)? {}
     Ok(())
 }
 
@@ -181,21 +181,21 @@ where
 fn enumerators_here<'a, F>(
     lent: &F,
     room: u16,
-    place: &mut Place<'a>,
+    cursor: &mut Cursor<'a>,
     depth: u32,
 ) -> Result<EnumList, ReadError>
 where
-    F: Fn(Ask, &mut Place<'a>) -> Result<Answer, ReadError>,
+    F: Fn(Ask, &mut Cursor<'a>) -> Result<Answer, ReadError>,
     requires { Lends F.Fn lent.now depth }
-    ensures { ReadsEnums place.old place.new result (enums_at depth room) }
+    ensures { ReadsEnums cursor.old cursor.new result (enums_at depth room) }
 {
-    let first = enumerator_here(lent, room, place, depth)?;
+    let first = enumerator_here(lent, room, cursor, depth)?;
     let mut list = EnumList {
-        items: SizedEnumerators::new(place.alloc),
+        items: SizedEnumerators::new(cursor.alloc),
         ending: None,
     };
     list.items.push(first)?;
-    more_enumerators(lent, &mut list, room, place, depth)?;
+    more_enumerators(lent, &mut list, room, cursor, depth)?;
     Ok(list)
 }
 
@@ -204,18 +204,18 @@ where
 fn enumerators<'a, F>(
     lent: &F,
     room: u16,
-    place: &mut Place<'a>,
+    cursor: &mut Cursor<'a>,
     depth: u32,
 ) -> Result<SizedEnumBody, ReadError>
 where
-    F: Fn(Ask, &mut Place<'a>) -> Result<Answer, ReadError>,
+    F: Fn(Ask, &mut Cursor<'a>) -> Result<Answer, ReadError>,
     requires { Lends F.Fn lent.now depth }
-    ensures { ReadsEnumBody place.old place.new result (enumerators_at depth room) }
+    ensures { ReadsEnumBody cursor.old cursor.new result (enumerators_at depth room) }
 {
-    room_for(2, room, place)?;
-    let opening = take_one(place)?;
-    let list = enumerators_here(lent, room.saturating_sub(1), place, depth)?;
-    let closing = close_brace(place)?;
+    room_for(2, room, cursor)?;
+    let opening = take_one(cursor)?;
+    let list = enumerators_here(lent, room.saturating_sub(1), cursor, depth)?;
+    let closing = close_brace(cursor)?;
     Ok(some_enum_body(opening, list.items, list.ending, closing))
 }
 
@@ -225,20 +225,20 @@ fn enum_body<'a, F>(
     lent: &F,
     tag: Option<Identifier>,
     room: u16,
-    place: &mut Place<'a>,
+    cursor: &mut Cursor<'a>,
     depth: u32,
 ) -> Result<SizedEnumBody, ReadError>
 where
-    F: Fn(Ask, &mut Place<'a>) -> Result<Answer, ReadError>,
+    F: Fn(Ask, &mut Cursor<'a>) -> Result<Answer, ReadError>,
     requires { Lends F.Fn lent.now depth }
-    ensures { ReadsEnumBody place.old place.new result (enum_body_at depth tag room) }
+    ensures { ReadsEnumBody cursor.old cursor.new result (enum_body_at depth tag room) }
 {
-    if is_open_brace(kind_at(place.rest)) {
-        return enumerators(lent, room, place, depth);
+    if is_open_brace(kind_at(cursor.rest)) {
+        return enumerators(lent, room, cursor, depth);
     }
     match tag {
         Some(_) => Ok(no_enum_body()),
-        None => Err(refused(Fault::Unexpected, place.rest)),
+        None => Err(refused(FaultKind::Unexpected, cursor.rest)),
     }
 }
 
@@ -247,17 +247,17 @@ where
 pub(crate) fn enum_word<'a, F>(
     lent: &F,
     room: u16,
-    place: &mut Place<'a>,
+    cursor: &mut Cursor<'a>,
     depth: u32,
 ) -> Result<SizedWord, ReadError>
 where
-    F: Fn(Ask, &mut Place<'a>) -> Result<Answer, ReadError>,
+    F: Fn(Ask, &mut Cursor<'a>) -> Result<Answer, ReadError>,
     requires { Lends F.Fn lent.now depth }
-    ensures { ReadsWord place.old place.new result (enum_at depth room) }
+    ensures { ReadsWord cursor.old cursor.new result (enum_at depth room) }
 {
-    let keyword = take_one(place)?;
-    let attrs = attrs(room, place)?;
-    let tag = tag(place)?;
-    let body = enum_body(lent, tag, room, place, depth)?;
-    Ok(enum_type(place.alloc, keyword, attrs, tag, body)?)
+    let keyword = take_one(cursor)?;
+    let attrs = attrs(room, cursor)?;
+    let tag = tag(cursor)?;
+    let body = enum_body(lent, tag, room, cursor, depth)?;
+    Ok(enum_type(cursor.alloc, keyword, attrs, tag, body)?)
 }

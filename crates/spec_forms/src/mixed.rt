@@ -22,7 +22,7 @@ use c_specs::{Class, Mix, class_of};
 use c_syntax::SpecWord;
 use c_words::Keyword;
 use qual_base::NoMemory;
-use reader_base::{Place, ReadError, room_for};
+use reader_base::{Cursor, ReadError, room_for};
 use std::alloc::Global;
 
 /// Words of specifiers, what stands of their mix, if one begins so, and whether a type, `typedef`
@@ -182,10 +182,10 @@ impl Mixed {
 
     /// Whether the words end before a base word, which names a typedef there, in wider C and behind
     /// `__auto_type`. Constant time.
-    pub fn ends_before(&self, start: &SpecStart, place: &Place) -> bool
-        ensures { result ≡ ends_before place.now.scopes (sized_specs self.now.words) start.now }
+    pub fn ends_before(&self, start: &SpecStart, cursor: &Cursor) -> bool
+        ensures { result ≡ ends_before cursor.now.scopes (sized_specs self.now.words) start.now }
     {
-        (place.scopes.is_wide() || self.typed_by_value)
+        (cursor.scopes.is_wide() || self.typed_by_value)
             && is_base_start(start)
             && self.declares_type
             && self.is_whole()
@@ -208,13 +208,13 @@ impl Mixed {
         &self,
         start: &SpecStart,
         room: u16,
-        place: &Place,
+        cursor: &Cursor,
     ) -> Result<(), ReadError>
         ensures { HasRoom (max (least_of start.now)
             (specs_height (sized_specs self.now.words))) room
-            place.now.rest.now result }
+            cursor.now.rest.now result }
     {
-        room_for(least_of(start).max(self.words.height), room, place)
+        room_for(least_of(start).max(self.words.height), room, cursor)
     }
 
     /// One word more, in constant time, amortised; where memory is wanting, no words are left.

@@ -10,7 +10,7 @@ use c_nodes::{
     SizedBody, SizedMemDeclr, SizedMember, SizedMembers, SizedStructItem, SizedStructItems,
     SizedWord,
 };
-use c_reading::{Fault, Reach, Role, turns_take_tokens};
+use c_reading::{FaultKind, Reach, Role, turns_take_tokens};
 use c_syntax::{Identifier, Word};
 use c_words::Keyword;
 use decl_nodes::{
@@ -19,7 +19,7 @@ use decl_nodes::{
 };
 use qual_base::TokenId;
 use reader_base::{
-    Answer, Ask, Begun, Place, ReadError, attrs, close_brace, expr_inside, extensions,
+    Answer, Ask, Begun, Cursor, ReadError, attrs, close_brace, expr_inside, extensions,
     is_close_brace, is_colon, is_comma, is_open_brace, is_semicolon, is_static_assert, kind_at,
     named_declr, refused, room_for, semicolon, specs_here, static_assert, tag, take_one,
 };
@@ -29,26 +29,26 @@ use reader_base::{
 fn width<'a, F>(
     lent: &F,
     room: u16,
-    place: &mut Place<'a>,
+    cursor: &mut Cursor<'a>,
     depth: u32,
 ) -> Result<SizedMemDeclr, ReadError>
 where
-    F: Fn(Ask, &mut Place<'a>) -> Result<Answer, ReadError>,
+    F: Fn(Ask, &mut Cursor<'a>) -> Result<Answer, ReadError>,
     requires { Lends F.Fn lent.now depth }
-    ensures { ReadsMemDeclr place.old place.new result (width_at depth room) }
+    ensures { ReadsMemDeclr cursor.old cursor.new result (width_at depth room) }
 {
-    room_for(2, room, place)?;
-    let colon = take_one(place)?;
+    room_for(2, room, cursor)?;
+    let colon = take_one(cursor)?;
     let inside = room.saturating_sub(1);
     let found = expr_inside(
         lent,
         Reach::Conditional,
         Begun::Nothing,
         inside,
-        place,
+        cursor,
         depth,
     )?;
-    let attrs = attrs(room, place)?;
+    let attrs = attrs(room, cursor)?;
     Ok(unnamed(colon, found, attrs))
 }
 
@@ -57,17 +57,17 @@ where
 fn field<'a, F>(
     lent: &F,
     room: u16,
-    place: &mut Place<'a>,
+    cursor: &mut Cursor<'a>,
     depth: u32,
 ) -> Result<SizedMemDeclr, ReadError>
 where
-    F: Fn(Ask, &mut Place<'a>) -> Result<Answer, ReadError>,
+    F: Fn(Ask, &mut Cursor<'a>) -> Result<Answer, ReadError>,
     requires { Lends F.Fn lent.now depth }
-    ensures { ReadsMemDeclr place.old place.new result (field_at depth room) }
+    ensures { ReadsMemDeclr cursor.old cursor.new result (field_at depth room) }
 {
-    let declr = named_declr(lent, None, room.saturating_sub(1), place, depth)?;
-    let width = value(lent, is_colon(kind_at(place.rest)), room, place, depth)?;
-    let attrs = attrs(room, place)?;
+    let declr = named_declr(lent, None, room.saturating_sub(1), cursor, depth)?;
+    let width = value(lent, is_colon(kind_at(cursor.rest)), room, cursor, depth)?;
+    let attrs = attrs(room, cursor)?;
     Ok(named(declr, width, attrs))
 }
 
@@ -76,18 +76,18 @@ where
 fn member_declr<'a, F>(
     lent: &F,
     room: u16,
-    place: &mut Place<'a>,
+    cursor: &mut Cursor<'a>,
     depth: u32,
 ) -> Result<SizedMemDeclr, ReadError>
 where
-    F: Fn(Ask, &mut Place<'a>) -> Result<Answer, ReadError>,
+    F: Fn(Ask, &mut Cursor<'a>) -> Result<Answer, ReadError>,
     requires { Lends F.Fn lent.now depth }
-    ensures { ReadsMemDeclr place.old place.new result (mem_declr_at depth room) }
+    ensures { ReadsMemDeclr cursor.old cursor.new result (mem_declr_at depth room) }
 {
-    if is_colon(kind_at(place.rest)) {
-        width(lent, room, place, depth)
+    if is_colon(kind_at(cursor.rest)) {
+        width(lent, room, cursor, depth)
     } else {
-        field(lent, room, place, depth)
+        field(lent, room, cursor, depth)
     }
 }
 
@@ -96,16 +96,16 @@ where
 fn first_member<'a, F>(
     lent: &F,
     room: u16,
-    place: &mut Place<'a>,
+    cursor: &mut Cursor<'a>,
     depth: u32,
 ) -> Result<SizedMember, ReadError>
 where
-    F: Fn(Ask, &mut Place<'a>) -> Result<Answer, ReadError>,
+    F: Fn(Ask, &mut Cursor<'a>) -> Result<Answer, ReadError>,
     requires { Lends F.Fn lent.now depth }
-    ensures { ReadsMember place.old place.new result (first_member_at depth room) }
+    ensures { ReadsMember cursor.old cursor.new result (first_member_at depth room) }
 {
-    let declr = member_declr(lent, room, place, depth)?;
-    Ok(listed_member(Vec::new(place.alloc), declr))
+    let declr = member_declr(lent, room, cursor, depth)?;
+    Ok(listed_member(Vec::new(cursor.alloc), declr))
 }
 
 /// One declarator more of a member, behind a comma.
@@ -115,17 +115,17 @@ fn push_member<'a, F>(
     comma: TokenId,
     known: &mut SizedMembers,
     room: u16,
-    place: &mut Place<'a>,
+    cursor: &mut Cursor<'a>,
     depth: u32,
 ) -> Result<(), ReadError>
 where
-    F: Fn(Ask, &mut Place<'a>) -> Result<Answer, ReadError>,
+    F: Fn(Ask, &mut Cursor<'a>) -> Result<Answer, ReadError>,
     requires { Lends F.Fn lent.now depth }
-    ensures { ReadsMemberList known.new place.old place.new result
+    ensures { ReadsMemberList known.new cursor.old cursor.new result
         (member_behind depth comma known.old room) }
 {
-    let attrs = attrs(room, place)?;
-    let declr = member_declr(lent, room, place, depth)?;
+    let attrs = attrs(room, cursor)?;
+    let declr = member_declr(lent, room, cursor, depth)?;
     known.push(listed_member(attrs, declr))?;
     Ok(())
 }
@@ -136,23 +136,23 @@ fn member_turn<'a, F>(
     lent: &F,
     known: &mut SizedMembers,
     room: u16,
-    place: &mut Place<'a>,
+    cursor: &mut Cursor<'a>,
     depth: u32,
 ) -> Result<bool, ReadError>
 where
-    F: Fn(Ask, &mut Place<'a>) -> Result<Answer, ReadError>,
+    F: Fn(Ask, &mut Cursor<'a>) -> Result<Answer, ReadError>,
     requires { Lends F.Fn lent.now depth }
-    ensures { Turns (member_list known.old) (member_list known.new) place.old place.new result
+    ensures { Turns (member_list known.old) (member_list known.new) cursor.old cursor.new result
         (member_turn depth room) }
 {
-    let [first, rest @ ..] = place.rest else {
+    let [first, rest @ ..] = cursor.rest else {
         return Ok(false);
     };
     if !is_comma(first.kind) {
         return Ok(false);
     }
-    place.rest = rest;
-    push_member(lent, first.at, known, room, place, depth)?;
+    cursor.rest = rest;
+    push_member(lent, first.at, known, room, cursor, depth)?;
     Ok(true)
 }
 
@@ -168,17 +168,17 @@ fn more_members<'a, F>(
     lent: &F,
     known: &mut SizedMembers,
     room: u16,
-    place: &mut Place<'a>,
+    cursor: &mut Cursor<'a>,
     depth: u32,
 ) -> Result<(), ReadError>
 where
-    F: Fn(Ask, &mut Place<'a>) -> Result<Answer, ReadError>,
+    F: Fn(Ask, &mut Cursor<'a>) -> Result<Answer, ReadError>,
     requires { Lends F.Fn lent.now depth }
-    ensures { ReadsMemberList known.new place.old place.new result
+    ensures { ReadsMemberList known.new cursor.old cursor.new result
         (more_members_at depth known.old room) }
 {
     members_step(room, depth);
-    while member_turn(lent, known, room, place, depth)? {}
+    while member_turn(lent, known, room, cursor, depth)? {}
     Ok(())
 }
 
@@ -187,21 +187,21 @@ where
 fn member_declrs<'a, F>(
     lent: &F,
     room: u16,
-    place: &mut Place<'a>,
+    cursor: &mut Cursor<'a>,
     depth: u32,
 ) -> Result<SizedMembers, ReadError>
 where
-    F: Fn(Ask, &mut Place<'a>) -> Result<Answer, ReadError>,
+    F: Fn(Ask, &mut Cursor<'a>) -> Result<Answer, ReadError>,
     requires { Lends F.Fn lent.now depth }
-    ensures { ReadsMembers place.old place.new result (mem_declrs_at depth room) }
+    ensures { ReadsMembers cursor.old cursor.new result (mem_declrs_at depth room) }
 {
-    let mut known = SizedMembers::new(place.alloc);
-    if is_semicolon(kind_at(place.rest)) {
+    let mut known = SizedMembers::new(cursor.alloc);
+    if is_semicolon(kind_at(cursor.rest)) {
         return Ok(known);
     }
-    let first = first_member(lent, room, place, depth)?;
+    let first = first_member(lent, room, cursor, depth)?;
     known.push(first)?;
-    more_members(lent, &mut known, room, place, depth)?;
+    more_members(lent, &mut known, room, cursor, depth)?;
     Ok(known)
 }
 
@@ -210,18 +210,18 @@ where
 fn member_here<'a, F>(
     lent: &F,
     room: u16,
-    place: &mut Place<'a>,
+    cursor: &mut Cursor<'a>,
     depth: u32,
 ) -> Result<SizedStructItem, ReadError>
 where
-    F: Fn(Ask, &mut Place<'a>) -> Result<Answer, ReadError>,
+    F: Fn(Ask, &mut Cursor<'a>) -> Result<Answer, ReadError>,
     requires { Lends F.Fn lent.now depth }
-    ensures { ReadsStructItem place.old place.new result (member_at depth room) }
+    ensures { ReadsStructItem cursor.old cursor.new result (member_at depth room) }
 {
-    let extensions = extensions(room, place)?;
-    let words = specs_here(lent, Role::Typed, room, place, depth)?;
-    let declrs = member_declrs(lent, room.saturating_sub(1), place, depth)?;
-    let semi = semicolon(place)?;
+    let extensions = extensions(room, cursor)?;
+    let words = specs_here(lent, Role::Typed, room, cursor, depth)?;
+    let declrs = member_declrs(lent, room.saturating_sub(1), cursor, depth)?;
+    let semi = semicolon(cursor)?;
     Ok(member(extensions, words, declrs, semi))
 }
 
@@ -230,25 +230,25 @@ where
 fn struct_item<'a, F>(
     lent: &F,
     room: u16,
-    place: &mut Place<'a>,
+    cursor: &mut Cursor<'a>,
     depth: u32,
 ) -> Result<SizedStructItem, ReadError>
 where
-    F: Fn(Ask, &mut Place<'a>) -> Result<Answer, ReadError>,
+    F: Fn(Ask, &mut Cursor<'a>) -> Result<Answer, ReadError>,
     requires { Lends F.Fn lent.now depth }
-    ensures { ReadsStructItem place.old place.new result (struct_item_at depth room) }
+    ensures { ReadsStructItem cursor.old cursor.new result (struct_item_at depth room) }
 {
-    if is_semicolon(kind_at(place.rest)) {
-        room_for(1, room, place)?;
-        let semi = take_one(place)?;
+    if is_semicolon(kind_at(cursor.rest)) {
+        room_for(1, room, cursor)?;
+        let semi = take_one(cursor)?;
         return Ok(member_semi(semi));
     }
-    if is_static_assert(kind_at(place.rest)) {
-        room_for(1, room, place)?;
-        let it = static_assert(place)?;
+    if is_static_assert(kind_at(cursor.rest)) {
+        room_for(1, room, cursor)?;
+        let it = static_assert(cursor)?;
         return Ok(member_assert(it));
     }
-    member_here(lent, room, place, depth)
+    member_here(lent, room, cursor, depth)
 }
 
 /// One item more, where no brace ends them.
@@ -257,19 +257,19 @@ fn item_turn<'a, F>(
     lent: &F,
     known: &mut SizedStructItems,
     room: u16,
-    place: &mut Place<'a>,
+    cursor: &mut Cursor<'a>,
     depth: u32,
 ) -> Result<bool, ReadError>
 where
-    F: Fn(Ask, &mut Place<'a>) -> Result<Answer, ReadError>,
+    F: Fn(Ask, &mut Cursor<'a>) -> Result<Answer, ReadError>,
     requires { Lends F.Fn lent.now depth }
-    ensures { Turns (struct_items known.old) (struct_items known.new) place.old place.new result
+    ensures { Turns (struct_items known.old) (struct_items known.new) cursor.old cursor.new result
         (struct_item_turn depth room) }
 {
-    if is_close_brace(kind_at(place.rest)) {
+    if is_close_brace(kind_at(cursor.rest)) {
         return Ok(false);
     }
-    let next = struct_item(lent, room, place, depth)?;
+    let next = struct_item(lent, room, cursor, depth)?;
     known.push(next)?;
     Ok(true)
 }
@@ -286,17 +286,17 @@ fn more_items<'a, F>(
     lent: &F,
     known: &mut SizedStructItems,
     room: u16,
-    place: &mut Place<'a>,
+    cursor: &mut Cursor<'a>,
     depth: u32,
 ) -> Result<(), ReadError>
 where
-    F: Fn(Ask, &mut Place<'a>) -> Result<Answer, ReadError>,
+    F: Fn(Ask, &mut Cursor<'a>) -> Result<Answer, ReadError>,
     requires { Lends F.Fn lent.now depth }
-    ensures { ReadsStructItems known.new place.old place.new result
+    ensures { ReadsStructItems known.new cursor.old cursor.new result
         (more_items_at depth known.old room) }
 {
     items_step(room, depth);
-    while item_turn(lent, known, room, place, depth)? {}
+    while item_turn(lent, known, room, cursor, depth)? {}
     Ok(())
 }
 
@@ -305,16 +305,16 @@ where
 fn items_here<'a, F>(
     lent: &F,
     room: u16,
-    place: &mut Place<'a>,
+    cursor: &mut Cursor<'a>,
     depth: u32,
 ) -> Result<SizedStructItems, ReadError>
 where
-    F: Fn(Ask, &mut Place<'a>) -> Result<Answer, ReadError>,
+    F: Fn(Ask, &mut Cursor<'a>) -> Result<Answer, ReadError>,
     requires { Lends F.Fn lent.now depth }
-    ensures { ReadsItems place.old place.new result (items_at depth room) }
+    ensures { ReadsItems cursor.old cursor.new result (items_at depth room) }
 {
-    let mut items = SizedStructItems::new(place.alloc);
-    more_items(lent, &mut items, room, place, depth)?;
+    let mut items = SizedStructItems::new(cursor.alloc);
+    more_items(lent, &mut items, room, cursor, depth)?;
     Ok(items)
 }
 
@@ -323,17 +323,17 @@ where
 fn members<'a, F>(
     lent: &F,
     room: u16,
-    place: &mut Place<'a>,
+    cursor: &mut Cursor<'a>,
     depth: u32,
 ) -> Result<SizedBody, ReadError>
 where
-    F: Fn(Ask, &mut Place<'a>) -> Result<Answer, ReadError>,
+    F: Fn(Ask, &mut Cursor<'a>) -> Result<Answer, ReadError>,
     requires { Lends F.Fn lent.now depth }
-    ensures { ReadsBody place.old place.new result (members_at depth room) }
+    ensures { ReadsBody cursor.old cursor.new result (members_at depth room) }
 {
-    let opening = take_one(place)?;
-    let items = items_here(lent, room.saturating_sub(1), place, depth)?;
-    let closing = close_brace(place)?;
+    let opening = take_one(cursor)?;
+    let items = items_here(lent, room.saturating_sub(1), cursor, depth)?;
+    let closing = close_brace(cursor)?;
     Ok(some_body(opening, items, closing))
 }
 
@@ -343,20 +343,20 @@ fn body<'a, F>(
     lent: &F,
     tag: Option<Identifier>,
     room: u16,
-    place: &mut Place<'a>,
+    cursor: &mut Cursor<'a>,
     depth: u32,
 ) -> Result<SizedBody, ReadError>
 where
-    F: Fn(Ask, &mut Place<'a>) -> Result<Answer, ReadError>,
+    F: Fn(Ask, &mut Cursor<'a>) -> Result<Answer, ReadError>,
     requires { Lends F.Fn lent.now depth }
-    ensures { ReadsBody place.old place.new result (body_at depth tag room) }
+    ensures { ReadsBody cursor.old cursor.new result (body_at depth tag room) }
 {
-    if is_open_brace(kind_at(place.rest)) {
-        return members(lent, room, place, depth);
+    if is_open_brace(kind_at(cursor.rest)) {
+        return members(lent, room, cursor, depth);
     }
     match tag {
         Some(_) => Ok(no_body()),
-        None => Err(refused(Fault::Unexpected, place.rest)),
+        None => Err(refused(FaultKind::Unexpected, cursor.rest)),
     }
 }
 
@@ -366,18 +366,18 @@ pub(crate) fn struct_word<'a, F>(
     lent: &F,
     keyword: Keyword,
     room: u16,
-    place: &mut Place<'a>,
+    cursor: &mut Cursor<'a>,
     depth: u32,
 ) -> Result<SizedWord, ReadError>
 where
-    F: Fn(Ask, &mut Place<'a>) -> Result<Answer, ReadError>,
+    F: Fn(Ask, &mut Cursor<'a>) -> Result<Answer, ReadError>,
     requires { Lends F.Fn lent.now depth }
-    ensures { ReadsWord place.old place.new result (struct_at depth keyword room) }
+    ensures { ReadsWord cursor.old cursor.new result (struct_at depth keyword room) }
 {
-    let token = take_one(place)?;
-    let attrs = attrs(room, place)?;
-    let tag = tag(place)?;
-    let body = body(lent, tag, room, place, depth)?;
+    let token = take_one(cursor)?;
+    let attrs = attrs(room, cursor)?;
+    let tag = tag(cursor)?;
+    let body = body(lent, tag, room, cursor, depth)?;
     let keyword = Word { token, keyword };
-    Ok(struct_type(place.alloc, keyword, attrs, tag, body)?)
+    Ok(struct_type(cursor.alloc, keyword, attrs, tag, body)?)
 }

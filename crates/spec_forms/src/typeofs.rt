@@ -12,7 +12,7 @@ use c_words::Keyword;
 use decl_nodes::{typeof_type, typeof_value};
 use qual_base::TokenId;
 use reader_base::{
-    Answer, Ask, Begun, Place, ReadError, begins_specs, close_paren, expr_inside, kind_at,
+    Answer, Ask, Begun, Cursor, ReadError, begins_specs, close_paren, expr_inside, kind_at,
     open_paren, take_one, type_name_inside,
 };
 
@@ -24,17 +24,17 @@ fn typed_word<'a, F>(
     token: TokenId,
     opening: TokenId,
     room: u16,
-    place: &mut Place<'a>,
+    cursor: &mut Cursor<'a>,
     depth: u32,
 ) -> Result<SizedWord, ReadError>
 where
-    F: Fn(Ask, &mut Place<'a>) -> Result<Answer, ReadError>,
+    F: Fn(Ask, &mut Cursor<'a>) -> Result<Answer, ReadError>,
     requires { Lends F.Fn lent.now depth }
-    ensures { ReadsWord place.old place.new result
+    ensures { ReadsWord cursor.old cursor.new result
         (specs.typed_word_with (knot depth) keyword token opening room) }
 {
-    let of = type_name_inside(lent, room.saturating_sub(1), place, depth)?;
-    let closing = close_paren(place)?;
+    let of = type_name_inside(lent, room.saturating_sub(1), cursor, depth)?;
+    let closing = close_paren(cursor)?;
     Ok(typeof_type(Word { token, keyword }, opening, of, closing))
 }
 
@@ -45,18 +45,18 @@ fn typed_by_value<'a, F>(
     token: TokenId,
     opening: TokenId,
     room: u16,
-    place: &mut Place<'a>,
+    cursor: &mut Cursor<'a>,
     depth: u32,
 ) -> Result<SizedWord, ReadError>
 where
-    F: Fn(Ask, &mut Place<'a>) -> Result<Answer, ReadError>,
+    F: Fn(Ask, &mut Cursor<'a>) -> Result<Answer, ReadError>,
     requires { Lends F.Fn lent.now depth }
-    ensures { ReadsWord place.old place.new result
+    ensures { ReadsWord cursor.old cursor.new result
         (specs.typeof_value_with (knot depth) token opening room) }
 {
     let inside = room.saturating_sub(1);
-    let operand = expr_inside(lent, Reach::Whole, Begun::Nothing, inside, place, depth)?;
-    let closing = close_paren(place)?;
+    let operand = expr_inside(lent, Reach::Whole, Begun::Nothing, inside, cursor, depth)?;
+    let closing = close_paren(cursor)?;
     Ok(typeof_value(token, opening, operand, closing))
 }
 
@@ -65,20 +65,20 @@ where
 pub(crate) fn typeof_word<'a, F>(
     lent: &F,
     room: u16,
-    place: &mut Place<'a>,
+    cursor: &mut Cursor<'a>,
     depth: u32,
 ) -> Result<SizedWord, ReadError>
 where
-    F: Fn(Ask, &mut Place<'a>) -> Result<Answer, ReadError>,
+    F: Fn(Ask, &mut Cursor<'a>) -> Result<Answer, ReadError>,
     requires { Lends F.Fn lent.now depth }
-    ensures { ReadsWord place.old place.new result (specs.typeof_with (knot depth) room) }
+    ensures { ReadsWord cursor.old cursor.new result (specs.typeof_with (knot depth) room) }
 {
-    let token = take_one(place)?;
-    let opening = open_paren(place)?;
-    if begins_specs(&place.scopes, kind_at(place.rest)) {
-        return typed_word(lent, Keyword::Typeof, token, opening, room, place, depth);
+    let token = take_one(cursor)?;
+    let opening = open_paren(cursor)?;
+    if begins_specs(&cursor.scopes, kind_at(cursor.rest)) {
+        return typed_word(lent, Keyword::Typeof, token, opening, room, cursor, depth);
     }
-    typed_by_value(lent, token, opening, room, place, depth)
+    typed_by_value(lent, token, opening, room, cursor, depth)
 }
 
 /// `AtomicType = _Atomic ( TypeName )`.
@@ -86,23 +86,23 @@ where
 pub(crate) fn atomic_word<'a, F>(
     lent: &F,
     room: u16,
-    place: &mut Place<'a>,
+    cursor: &mut Cursor<'a>,
     depth: u32,
 ) -> Result<SizedWord, ReadError>
 where
-    F: Fn(Ask, &mut Place<'a>) -> Result<Answer, ReadError>,
+    F: Fn(Ask, &mut Cursor<'a>) -> Result<Answer, ReadError>,
     requires { Lends F.Fn lent.now depth }
-    ensures { ReadsWord place.old place.new result (specs.atomic_with (knot depth) room) }
+    ensures { ReadsWord cursor.old cursor.new result (specs.atomic_with (knot depth) room) }
 {
-    let token = take_one(place)?;
-    let opening = open_paren(place)?;
+    let token = take_one(cursor)?;
+    let opening = open_paren(cursor)?;
     typed_word(
         lent,
         Keyword::AtomicType,
         token,
         opening,
         room,
-        place,
+        cursor,
         depth,
     )
 }

@@ -13,14 +13,15 @@ use crate::starts::{class_of_start, is_start};
 use crate::structs::struct_word;
 use crate::typeofs::{atomic_word, typeof_word};
 use c_nodes::{SizedSpecs, SizedWord};
-use c_reading::{Fault, Role, SpecStart, turns_take_tokens};
+use c_reading::{FaultKind, Role, SpecStart, turns_take_tokens};
 use c_syntax::{Qual, Word};
 use decl_nodes::{
     align, attribute, auto_word, basic, inline_word, noreturn, qualifier, storage, thread,
     typedef_name,
 };
 use reader_base::{
-    Answer, Ask, Place, ReadError, alignment, attr, kind_at, may_stand, refused, start_at, take_one,
+    Answer, Ask, Cursor, ReadError, alignment, attr, kind_at, may_stand, refused, start_at,
+    take_one,
 };
 
 /// A word that begins so.
@@ -29,52 +30,52 @@ fn word<'a, F>(
     lent: &F,
     start: &SpecStart,
     room: u16,
-    place: &mut Place<'a>,
+    cursor: &mut Cursor<'a>,
     depth: u32,
 ) -> Result<SizedWord, ReadError>
 where
-    F: Fn(Ask, &mut Place<'a>) -> Result<Answer, ReadError>,
+    F: Fn(Ask, &mut Cursor<'a>) -> Result<Answer, ReadError>,
     requires { Lends F.Fn lent.now depth }
-    ensures { ReadsWord place.old place.new result (word_at depth start.now room) }
+    ensures { ReadsWord cursor.old cursor.new result (word_at depth start.now room) }
 {
     match *start {
         SpecStart::Storage(keyword) => {
-            let token = take_one(place)?;
+            let token = take_one(cursor)?;
             Ok(storage(Word { token, keyword }))
         }
-        SpecStart::Thread => Ok(thread(take_one(place)?)),
-        SpecStart::Inline => Ok(inline_word(take_one(place)?)),
-        SpecStart::Noreturn => Ok(noreturn(take_one(place)?)),
+        SpecStart::Thread => Ok(thread(take_one(cursor)?)),
+        SpecStart::Inline => Ok(inline_word(take_one(cursor)?)),
+        SpecStart::Noreturn => Ok(noreturn(take_one(cursor)?)),
         SpecStart::Word(keyword) => {
-            let token = take_one(place)?;
+            let token = take_one(cursor)?;
             Ok(qualifier(Qual::Word(Word { token, keyword })))
         }
         SpecStart::Element => {
-            let token = take_one(place)?;
+            let token = take_one(cursor)?;
             Ok(qualifier(Qual::Element { token }))
         }
         SpecStart::Index => {
-            let token = take_one(place)?;
+            let token = take_one(cursor)?;
             Ok(qualifier(Qual::Index { token }))
         }
         SpecStart::Basic(keyword) => {
-            let token = take_one(place)?;
+            let token = take_one(cursor)?;
             Ok(basic(Word { token, keyword }))
         }
         SpecStart::Struct(keyword) => {
-            struct_word(lent, keyword, room.saturating_sub(1), place, depth)
+            struct_word(lent, keyword, room.saturating_sub(1), cursor, depth)
         }
-        SpecStart::Enum => enum_word(lent, room.saturating_sub(1), place, depth),
-        SpecStart::Attribute => Ok(attribute(attr(place)?)),
+        SpecStart::Enum => enum_word(lent, room.saturating_sub(1), cursor, depth),
+        SpecStart::Attribute => Ok(attribute(attr(cursor)?)),
         SpecStart::Name(name) => {
-            let token = take_one(place)?;
+            let token = take_one(cursor)?;
             Ok(typedef_name(token, name))
         }
-        SpecStart::Typeof => typeof_word(lent, room.saturating_sub(1), place, depth),
-        SpecStart::Atomic => atomic_word(lent, room.saturating_sub(1), place, depth),
-        SpecStart::Align => Ok(align(alignment(place)?)),
-        SpecStart::Auto => Ok(auto_word(take_one(place)?)),
-        SpecStart::Nothing => Err(refused(Fault::Unexpected, place.rest)),
+        SpecStart::Typeof => typeof_word(lent, room.saturating_sub(1), cursor, depth),
+        SpecStart::Atomic => atomic_word(lent, room.saturating_sub(1), cursor, depth),
+        SpecStart::Align => Ok(align(alignment(cursor)?)),
+        SpecStart::Auto => Ok(auto_word(take_one(cursor)?)),
+        SpecStart::Nothing => Err(refused(FaultKind::Unexpected, cursor.rest)),
     }
 }
 
@@ -86,24 +87,24 @@ fn push_word<'a, F>(
     start: &SpecStart,
     words: &mut Mixed,
     room: u16,
-    place: &mut Place<'a>,
+    cursor: &mut Cursor<'a>,
     depth: u32,
 ) -> Result<(), ReadError>
 where
-    F: Fn(Ask, &mut Place<'a>) -> Result<Answer, ReadError>,
+    F: Fn(Ask, &mut Cursor<'a>) -> Result<Answer, ReadError>,
     requires { Lends F.Fn lent.now depth }
-    ensures { ReadsMixed words.new place.old place.new result
+    ensures { ReadsMixed words.new cursor.old cursor.new result
         (words_with depth role start.now words.old room) }
 {
     if !may_stand(role, start) {
-        return Err(refused(Fault::Unexpected, place.rest));
+        return Err(refused(FaultKind::Unexpected, cursor.rest));
     }
     if !words.goes_on(class_of_start(start)) {
-        return Err(refused(Fault::BadMix, place.rest));
+        return Err(refused(FaultKind::BadMix, cursor.rest));
     }
-    words.room_for_next(start, room, place)?;
-    let next = word(lent, start, room, place, depth)?;
-    words.push(next, place.alloc)?;
+    words.room_for_next(start, room, cursor)?;
+    let next = word(lent, start, room, cursor, depth)?;
+    words.push(next, cursor.alloc)?;
     Ok(())
 }
 
@@ -114,20 +115,20 @@ fn word_turn<'a, F>(
     role: Role,
     words: &mut Mixed,
     room: u16,
-    place: &mut Place<'a>,
+    cursor: &mut Cursor<'a>,
     depth: u32,
 ) -> Result<bool, ReadError>
 where
-    F: Fn(Ask, &mut Place<'a>) -> Result<Answer, ReadError>,
+    F: Fn(Ask, &mut Cursor<'a>) -> Result<Answer, ReadError>,
     requires { Lends F.Fn lent.now depth }
-    ensures { Turns (words_in words.old) (words_in words.new) place.old place.new result
+    ensures { Turns (words_in words.old) (words_in words.new) cursor.old cursor.new result
         (word_turn (knot depth) role room) }
 {
-    let start = start_at(&place.scopes, words.is_typed(), kind_at(place.rest));
-    if words.ends_before(&start, place) || !is_start(&start) {
+    let start = start_at(&cursor.scopes, words.is_typed(), kind_at(cursor.rest));
+    if words.ends_before(&start, cursor) || !is_start(&start) {
         return Ok(false);
     }
-    push_word(lent, role, &start, words, room, place, depth)?;
+    push_word(lent, role, &start, words, room, cursor, depth)?;
     Ok(true)
 }
 
@@ -144,16 +145,17 @@ fn more_words<'a, F>(
     role: Role,
     words: &mut Mixed,
     room: u16,
-    place: &mut Place<'a>,
+    cursor: &mut Cursor<'a>,
     depth: u32,
 ) -> Result<(), ReadError>
 where
-    F: Fn(Ask, &mut Place<'a>) -> Result<Answer, ReadError>,
+    F: Fn(Ask, &mut Cursor<'a>) -> Result<Answer, ReadError>,
     requires { Lends F.Fn lent.now depth }
-    ensures { ReadsMixed words.new place.old place.new result (words_at depth role words.old room) }
+    ensures { ReadsMixed words.new cursor.old cursor.new result
+        (words_at depth role words.old room) }
 {
     words_step(role, room, depth);
-    while word_turn(lent, role, words, room, place, depth)? {}
+    while word_turn(lent, role, words, room, cursor, depth)? {}
     Ok(())
 }
 
@@ -167,18 +169,19 @@ pub fn specifiers<'a, F>(
     role: Role,
     known: SizedSpecs,
     room: u16,
-    place: &mut Place<'a>,
+    cursor: &mut Cursor<'a>,
     depth: u32,
 ) -> Result<SizedSpecs, ReadError>
 where
-    F: Fn(Ask, &mut Place<'a>) -> Result<Answer, ReadError>,
+    F: Fn(Ask, &mut Cursor<'a>) -> Result<Answer, ReadError>,
     requires { Lends F.Fn lent.now depth }
-    ensures { ReadsSpecs place.old place.new result (specs_at depth role (sized_specs known) room) }
+    ensures { ReadsSpecs cursor.old cursor.new result
+        (specs_at depth role (sized_specs known) room) }
 {
     let mut words = Mixed::new(known);
-    more_words(lent, role, &mut words, room, place, depth)?;
+    more_words(lent, role, &mut words, room, cursor, depth)?;
     if !words.is_whole() {
-        return Err(refused(Fault::Unexpected, place.rest));
+        return Err(refused(FaultKind::Unexpected, cursor.rest));
     }
     Ok(words.words)
 }

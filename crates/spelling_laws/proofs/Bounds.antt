@@ -1,5 +1,5 @@
 -- The number of a name is less than how many tokens its unit has.
-use Rattle.std.proofs.Common.{◌≡◌, ◌⊎◌, inl, inr, ℕ, Bool, zero, suc, ◌+◌, ◌<◌, ◌≤◌, List, [], ◌∷◌, ◌++◌, length, Option, None, Some, take, drop, is_some, unwrap_or, position, bytes_eq, if◌then◌else◌, refl, sym, ◌∙◌, subst, arith}
+use Rattle.std.proofs.Common.{◌≡◌, ◌⊎◌, inl, inr, ℕ, Bool, ◌+◌, ◌<◌, ◌≤◌, List, [], ◌∷◌, ◌++◌, length, Option, None, Some, take, drop, is_some, unwrap_or, position, bytes_eq, if◌then◌else◌, refl, sym, ◌∙◌, subst, arith}
 use Rattle.std.specs.Prelude.{slice_get}
 use Rattle.std.proofs.lemmas.List.{length-append}
 use Rattle.std.proofs.lemmas.List.Quantifiers.{position-Some}
@@ -10,14 +10,7 @@ use Rattle.c_lexer.specs.Names.{name_number, with_name}
 use Rattle.c_lexer.specs.Reading.{Meanings, Front, IsKind, names_behind, Reaches}
 use Rattle.c_lexer.specs.Reading.Reaches.{begins, skips, takes}
 use Rattle.c_lexer.specs.Tokens.{Lexed, IsSpelled}
-
--- an element of a list with one more is one of the list, or the one more
-pushed : {A : Type 0} (xs : List A) (y x : A) (k : ℕ) → slice_get (xs ++ y ∷ []) k ≡ Some x →
-    (slice_get xs k ≡ Some x) ⊎ (y ≡ x)
-pushed [] y x zero e = inr cc
-pushed [] y x (suc k) e = absurd cc
-pushed (z ∷ xs) y x zero e = inl e
-pushed (z ∷ xs) y x (suc k) e = pushed xs y x k e
+use Rattle.c_lexer.proofs.ReachLemmas.{pushed}
 
 -- a token adds one name at most, and has the number of one of them
 record Grown (old new : List (List ℕ)) (kind : TokenKind) : Type 0 where
@@ -103,5 +96,6 @@ name_below words lexed spelled k t id there is =
     let all = one_more s.front.tokens (record { kind = End; start = length lexed.bytes; end = length lexed.bytes })
     s.front.names s.front.names (reaches_few lexed.unit lexed.wide words lexed.bytes s.front s.reached)
     (other_grown s.front.names End (λ id e. absurd cc)) in
-    let whole : Few lexed.tokens s.front.names = subst (λ (ts : List Token). Few ts s.front.names) (sym s.tokens_are) all in
+    let whole : Few lexed.tokens s.front.names =
+    subst (λ (ts : List Token). Few ts s.front.names) (sym s.tokens_are) all in
     let few = whole.few in let less = whole.below k t id there is in omega (arith, few, less)

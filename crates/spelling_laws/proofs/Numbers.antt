@@ -95,9 +95,11 @@ token_text : (lexed : Lexed) (i : ℕ) (t : Token) → slice_get lexed.tokens i 
     → text_of lexed i ≡ bytes_of lexed t
 token_text lexed i t there =
     let first : start_of lexed.tokens i ≡ t.start = ap (λ o. unwrap_or o 0)
-    (slice_get-map (λ (token : Token). token.start) lexed.tokens i ∙ ap (option_map (λ (token : Token). token.start)) there) in
+    (slice_get-map (λ (token : Token). token.start) lexed.tokens i
+    ∙ ap (option_map (λ (token : Token). token.start)) there) in
     let last : end_of lexed.tokens i ≡ t.end = ap (λ o. unwrap_or o 0)
-    (slice_get-map (λ (token : Token). token.end) lexed.tokens i ∙ ap (option_map (λ (token : Token). token.end)) there) in
+    (slice_get-map (λ (token : Token). token.end) lexed.tokens i
+    ∙ ap (option_map (λ (token : Token). token.end)) there) in
     rw (first, last) refl
 
 -- one name has one spelling, and one spelling one name
@@ -133,7 +135,8 @@ module _ (law : NamesAreNumbered) where
           name_below it.0 first it.1 x.at x.token a x.there x.kind
 
       by : (o p : Option ℕ) → name_among first first.tokens s ≡ o → name_among first first.tokens t ≡ p →
-          key_or (length first.tokens + key_among others s m) o ≡ key_or (length first.tokens + key_among others t n) p →
+          key_or (length first.tokens + key_among others s m) o
+          ≡ key_or (length first.tokens + key_among others t n) p →
           (key_among others s m ≡ key_among others t n → (s ≡ t) ⊎ (m ≡ n)) → (s ≡ t) ⊎ (m ≡ n)
       by None None is other e next = next (omega (arith, e))
       by (Some a) (Some b) is other e next =
@@ -163,7 +166,8 @@ module _ (law : NamesAreNumbered) where
 
       by : (kind : TokenKind) → (if is_named kind m then true else has_name all m) ≡ true →
           (has_name all m ≡ true → (text : List ℕ) × (spelled_among lexed ts m ≡ Some text)) →
-          (text : List ℕ) × ((if is_name (name_of_kind kind) m then Some (bytes_of lexed t) else spelled_among lexed ts m) ≡ Some text)
+          (text : List ℕ)
+          × ((if is_name (name_of_kind kind) m then Some (bytes_of lexed t) else spelled_among lexed ts m) ≡ Some text)
       by (Name n) has next = name_by (nat_eq n m) has next
       by (Keyword word) has next = next has
       by Number has next = next has

@@ -1,15 +1,10 @@
 -- Constraints of lists that stand one behind the other.
 use Rattle.std.proofs.Common.{◌≡◌, ℕ, zero, suc, List, [], ◌∷◌, ◌++◌, slice_get, Some, ◌⊎◌, inl, inr}
+use Rattle.qual_base.proofs.Lists.{get_left}
 use Rattle.flow_graph.specs.declared.constraint.Link.{Link}
 use Rattle.flow_graph.specs.declared.constraint.Constraint.{Constraint}
 use Rattle.flow_graph.specs.System.{Has, Stands}
 use Rattle.split_laws.specs.Splits.{Split, of_part}
-
--- an item of a list stands at its place in the list with another behind
-left_of : {A : Type 0} (xs ys : List A) (k : ℕ) (x : A) → slice_get xs k ≡ Some x → slice_get (xs ++ ys) k ≡ Some x
-left_of [] ys k x e = absurd cc
-left_of (y ∷ xs) ys zero x e = e
-left_of (y ∷ xs) ys (suc k) x e = left_of xs ys k x e
 
 right_of : {A : Type 0} (xs ys : List A) (k : ℕ) (x : A) → slice_get ys k ≡ Some x
     → (j : ℕ) × (slice_get (xs ++ ys) j ≡ Some x)
@@ -25,11 +20,17 @@ either_of (y ∷ xs) ys (suc k) x e = either_of xs ys k x e
 
 module _ (s : Split) (one other : List Constraint) where
   pub front_has : (n : ℕ) (link : Link) → Has (of_part s one) n link → Has (of_part s (one ++ other)) n link
-  front_has n link h = record { constraint = h.constraint; there = left_of one other n h.constraint h.there; link_is = h.link_is }
+  front_has n link h =
+      record { constraint = h.constraint; there = get_left one other n h.constraint h.there; link_is = h.link_is }
 
   pub front : (lattice n : ℕ) (link : Link) → Stands (of_part s one) lattice n link
       → Stands (of_part s (one ++ other)) lattice n link
-  front lattice n link h = record { constraint = h.constraint; there = left_of one other n h.constraint h.there; link_is = h.link_is; carried = h.carried }
+  front lattice n link h = record {
+    constraint = h.constraint;
+    there = get_left one other n h.constraint h.there;
+    link_is = h.link_is;
+    carried = h.carried;
+  }
 
   pub back : (lattice n : ℕ) (link : Link) → Stands (of_part s other) lattice n link
       → (j : ℕ) × Stands (of_part s (one ++ other)) lattice j link
@@ -40,5 +41,6 @@ module _ (s : Split) (one other : List Constraint) where
       → Stands (of_part s one) lattice n link ⊎ ((j : ℕ) × Stands (of_part s other) lattice j link)
   parted lattice n link h = elim (either_of one other n h.constraint h.there) [
     | inl there ↦ inl (record { constraint = h.constraint; there = there; link_is = h.link_is; carried = h.carried })
-    | inr found ↦ inr (found.0, record { constraint = h.constraint; there = found.1; link_is = h.link_is; carried = h.carried })
+    | inr found ↦
+        inr (found.0, record { constraint = h.constraint; there = found.1; link_is = h.link_is; carried = h.carried })
   ]

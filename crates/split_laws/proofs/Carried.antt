@@ -29,7 +29,8 @@ module _ (one other : System) (lattice : ℕ) (same : AreSame one other) where
     part : (g x v : ℕ) → Part one lattice g x v → Part other lattice g x v
     part g x v (flow _ _ _ n st is) = flow g x v n (to n (Le x v) st) (sym (of n (Le x v) st).1 ∙ is)
     part g x v (group _ _ a b _ s h n m st q st2 is) =
-        group g x a b v s h n m (to n (Enter s x a) st) (path h a b (of n (Enter s x a) st).1 q) (to m (Leave s b v) st2) (sym (of m (Leave s b v) st2).1 ∙ is)
+        group g x a b v s h n m (to n (Enter s x a) st) (path h a b (of n (Enter s x a) st).1 q)
+        (to m (Leave s b v) st2) (sym (of m (Leave s b v) st2).1 ∙ is)
 
   ends : (e v : ℕ) → Calling one lattice e v → SameOwner one other v
   ends e v (calls u _ s n p st) = (of n (Enter s u v) st).1
@@ -43,7 +44,8 @@ module _ (one other : System) (lattice : ℕ) (same : AreSame one other) where
     back e v (flows u _ n p st) = flows u v n (back e u p) (to n (Le u v) st)
     back e v (returns u _ s n p st) = returns u v s n (back e u p) (to n (Leave s u v) st)
     back e v (grouped u a b _ s g n m p st q st2) =
-        grouped u a b v s g n m (back e u p) (to n (Enter s u a) st) (path g a b (of n (Enter s u a) st).1 q) (to m (Leave s b v) st2)
+        grouped u a b v s g n m (back e u p) (to n (Enter s u a) st) (path g a b (of n (Enter s u a) st).1 q)
+        (to m (Leave s b v) st2)
     back e v (anew _ c is) = anew v (call e v c) (sym (ends e v c) ∙ is)
 
     call : (e v : ℕ) → Calling one lattice e v → Calling other lattice e v
@@ -51,7 +53,8 @@ module _ (one other : System) (lattice : ℕ) (same : AreSame one other) where
     call e v (calls_on u _ s n c st) = calls_on u v s n (call e u c) (to n (Enter s u v) st)
     call e v (flows_on u _ n c st) = flows_on u v n (call e u c) (to n (Le u v) st)
     call e v (grouped_on u a b _ s g n m c st q st2) =
-        grouped_on u a b v s g n m (call e u c) (to n (Enter s u a) st) (path g a b (of n (Enter s u a) st).1 q) (to m (Leave s b v) st2)
+        grouped_on u a b v s g n m (call e u c) (to n (Enter s u a) st) (path g a b (of n (Enter s u a) st).1 q)
+        (to m (Leave s b v) st2)
 
   on : (e v : ℕ) → Lead one lattice e v → Lead other lattice e v
   on e v (inl p) = inl (back e v p)

@@ -50,14 +50,16 @@ module _ (s : Split) (one other : List Constraint) where
 -- a copy without its last site
 pub copy_off : (sys : System) (depth : ℕ) (outer inner : Owner) (t : ℕ) (sites : List ℕ)
     → IsCopy sys depth inner (t ∷ sites) → Calls sys t outer inner → IsCopy sys depth outer sites
-copy_off sys depth outer inner t sites copy call = by_string sites (string (subst (λ o. IsCopy sys depth o (t ∷ sites)) call.inner_is copy))
+copy_off sys depth outer inner t sites copy call =
+    by_string sites (string (subst (λ o. IsCopy sys depth o (t ∷ sites)) call.inner_is copy))
   where
     string : IsCopy sys depth (Function call.it.target) (t ∷ sites)
         → IsCopy sys depth (Function call.it.target) (t ∷ sites)
     string c = c
 
     same : (o : Owner) → Calls sys t o (Function call.it.target) → o ≡ outer
-    same o other = other.outer_is ∙ ap (λ (site : Site). site.owner) (site_is (sym other.there ∙ call.there)) ∙ sym call.outer_is
+    same o other =
+        other.outer_is ∙ ap (λ (site : Site). site.owner) (site_is (sym other.there ∙ call.there)) ∙ sym call.outer_is
 
     shorter : (o : Owner) (w : List ℕ) → IsCallString sys o w → length w + 1 ≤ depth → IsCopy sys depth o w
     shorter Nobody [] h fits = refl
@@ -71,14 +73,17 @@ copy_off sys depth outer inner t sites copy call = by_string sites (string (subs
         root_of : (o : Owner) → IsCopy sys depth o []
         root_of Nobody = refl
         root_of (Function f) = (tt, omega arith)
-    by_string (r ∷ w) c = subst (λ o. IsCopy sys depth o (r ∷ w)) (same c.0.0 c.0.1) (shorter c.0.0 (r ∷ w) c.0.2 (omega (arith, c.1)))
+    by_string (r ∷ w) c =
+        subst (λ o. IsCopy sys depth o (r ∷ w)) (same c.0.0 c.0.1) (shorter c.0.0 (r ∷ w) c.0.2 (omega (arith, c.1)))
 
 module _ (s : Split) (fits : IsSplit s) where
   pub owned : IsWellOwned (alone s)
   owned = record {
     le = λ n u v f g h p q. fits.owned.le n u v f g (front_has s s.library s.client n (Le u v) h) p q;
-    enter = λ n t u v h. calls_of s (s.library ++ s.client) s.library t _ _ (fits.owned.enter n t u v (front_has s s.library s.client n (Enter t u v) h));
-    leave = λ n t u v h. calls_of s (s.library ++ s.client) s.library t _ _ (fits.owned.leave n t u v (front_has s s.library s.client n (Leave t u v) h));
+    enter = λ n t u v h. calls_of s (s.library ++ s.client) s.library t _ _
+        (fits.owned.enter n t u v (front_has s s.library s.client n (Enter t u v) h));
+    leave = λ n t u v h. calls_of s (s.library ++ s.client) s.library t _ _
+        (fits.owned.leave n t u v (front_has s s.library s.client n (Leave t u v) h));
   }
 
   abbrev foreign_owner : Owner → Bool

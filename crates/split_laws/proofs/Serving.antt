@@ -42,7 +42,8 @@ test_off : (A : Type 0) (d : Decided A) → test_of A d ≡ true → A
 test_off A (inl a) is = a
 test_off A (inr not) is = absurd cc
 
-module _ (s : Split) (lattice : ℕ) (order : Order) (join meet : ℕ → ℕ) (t : SplitTests) (given : SplitPremises s lattice order join meet t) where
+module _ (s : Split) (lattice : ℕ) (order : Order) (join meet : ℕ → ℕ) (t : SplitTests)
+    (given : SplitPremises s lattice order join meet t) where
   abbrev lib : System
   lib = alone s
 
@@ -52,7 +53,8 @@ module _ (s : Split) (lattice : ℕ) (order : Order) (join meet : ℕ → ℕ) (
   module _ (depth : ℕ) (map : Assignment) (met : Meets (served s) lattice order depth map) where
     -- from a node, in a copy that the client calls, a path leads to the variable
     abbrev AtNode : ℕ → ℕ → ℕ → List ℕ → ℕ → Type 0
-    AtNode e x site sites v = ((s.node v ≡ true) × (foreign s given.split site ≡ true)) × ((e ≡ map v (site ∷ sites)) × (t.joined v x ≡ true))
+    AtNode e x site sites v =
+        ((s.node v ≡ true) × (foreign s given.split site ≡ true)) × ((e ≡ map v (site ∷ sites)) × (t.joined v x ≡ true))
 
     -- what comes to a copy of a variable of the library
     abbrev In : ℕ → ℕ → List ℕ → Type 0
@@ -62,11 +64,14 @@ module _ (s : Split) (lattice : ℕ) (order : Order) (join meet : ℕ → ℕ) (
         ⊎ ((v : ℕ) × AtNode e x site sites v))
 
     returned_tells : (e x : ℕ) → Decided (Returning lib lattice e x)
-    returned_tells e x = elim (by_bool (t.returned e x)) [ inl is ↦ inl ((given.exact.returned e x).0 is) | inr not ↦ inr (λ p. not ((given.exact.returned e x).1 p)) ]
+    returned_tells e x =
+        elim (by_bool (t.returned e x))
+        [ inl is ↦ inl ((given.exact.returned e x).0 is) | inr not ↦ inr (λ p. not ((given.exact.returned e x).1 p)) ]
 
     node_tells : (e x site : ℕ) (sites : List ℕ) (v : ℕ) → Decided (AtNode e x site sites v)
     node_tells e x site sites v = both _ _ (both _ _ (by_bool (s.node v)) (by_bool (foreign s given.split site)))
-        (both _ _ (elim (eqb_tells e (map v (site ∷ sites))) [ inl same ↦ inl same.1 | inr other ↦ inr other.1 ]) (by_bool (t.joined v x)))
+        (both _ _ (elim (eqb_tells e (map v (site ∷ sites))) [ inl same ↦ inl same.1 | inr other ↦ inr other.1 ])
+        (by_bool (t.joined v x)))
 
     some_node : (e x site : ℕ) (sites : List ℕ) → Decided ((v : ℕ) × AtNode e x site sites v)
     some_node e x site sites = elim (search_below (λ v. AtNode e x site sites v → ⊥) (AtNode e x site sites)
@@ -79,13 +84,18 @@ module _ (s : Split) (lattice : ℕ) (order : Order) (join meet : ℕ → ℕ) (
     in_tells e x [] = returned_tells e x
     in_tells e x (site ∷ sites) = elim (returned_tells e x) [
       | inl p ↦ inl (inl p)
-      | inr no_return ↦ elim (some_way lib lattice site (λ u. In e u sites) (λ a. t.joined a x ≡ true) (λ u. in_tells e u sites) (λ a. by_bool (t.joined a x))) [
-        | inl way ↦ inl (inr (inl (way.0, way.1.0, way.1.1, way.1.2, way.1.3, way.1.4)))
-        | inr no_way ↦ elim (some_node e x site sites) [
-          | inl found ↦ inl (inr (inr found))
-          | inr no_node ↦ inr (λ r. elim r [ inl p ↦ no_return p | inr rest ↦ elim rest [ inl way ↦ no_way (way.0, (way.1, way.2, way.3, way.4, way.5)) | inr found ↦ no_node found ] ])
-        ]
-      ]
+      | inr no_return ↦ elim (some_way lib lattice site (λ u. In e u sites) (λ a. t.joined a x ≡ true)
+          (λ u. in_tells e u sites) (λ a. by_bool (t.joined a x))) [
+            | inl way ↦ inl (inr (inl (way.0, way.1.0, way.1.1, way.1.2, way.1.3, way.1.4)))
+            | inr no_way ↦ elim (some_node e x site sites) [
+              | inl found ↦ inl (inr (inr found))
+              | inr no_node ↦ inr (λ r. elim r [
+                | inl p ↦ no_return p
+                | inr rest ↦ elim rest
+                    [ inl way ↦ no_way (way.0, (way.1, way.2, way.3, way.4, way.5)) | inr found ↦ no_node found ]
+              ])
+            ]
+          ]
     ]
 
     anywhere : (e x : ℕ) (sites : List ℕ) → Returning lib lattice e x → In e x sites
@@ -128,7 +138,8 @@ module _ (s : Split) (lattice : ℕ) (order : Order) (join meet : ℕ → ℕ) (
         let f : ℕ = mine.0.0 in
         let g : ℕ = mine.1.0 in
         let same : f ≡ g = same_function lib lattice lib_owned n u v st f g mine.0.1 mine.1.1 in
-        onward e f u v sites r (one_part lib lattice f u v mine.0.1 (flow f u v n st (mine.1.1 ∙ ap (λ f. Function f) (sym same))))
+        onward e f u v sites r
+        (one_part lib lattice f u v mine.0.1 (flow f u v n st (mine.1.1 ∙ ap (λ f. Function f) (sym same))))
 
     entered : (e n site u a : ℕ) (sites : List ℕ) → Stands lib lattice n (Enter site u a) → In e u sites
         → In e a (site ∷ sites)
@@ -143,15 +154,19 @@ module _ (s : Split) (lattice : ℕ) (order : Order) (join meet : ℕ → ℕ) (
         let mine = given.split.library n (Enter site u a) (has_of lib lattice n (Enter site u a) st) in
         let f : ℕ = mine.0.0 in
         let path = inner_path n site u a b st is in
-        let outer : owner_of lib y ≡ Function f = sym (same_outer lib lattice lib_owned n m site u a b y st st2) ∙ mine.0.1 in
-        onward e f u y sites r (one_part lib lattice f u y mine.0.1 (group f u a b y site path.0 n m st path.1 st2 outer))
+        let outer : owner_of lib y ≡ Function f =
+        sym (same_outer lib lattice lib_owned n m site u a b y st st2) ∙ mine.0.1 in
+        onward e f u y sites r
+        (one_part lib lattice f u y mine.0.1 (group f u a b y site path.0 n m st path.1 st2 outer))
     left e m site b y sites st2 (inr (inr (v, ((node, far), (same, is))))) =
         let mine = given.split.library m (Leave site b y) (has_of lib lattice m (Leave site b y) st2) in
         absurd (own_site s given.split site y b (leaving lib lattice lib_owned m site b y st2) mine.1 far)
 
     -- what comes leads there in the library, or from what the words bound
     abbrev Below : ℕ → ℕ → Type 0
-    Below e x = (v : ℕ) × (w : List ℕ) × (s.node v ≡ true) × IsCopy lib depth (owner_of lib v) w × (e ≡ map v w) × Down lib lattice v x
+    Below e x =
+        (v : ℕ) × (w : List ℕ) × (s.node v ≡ true) × IsCopy lib depth (owner_of lib v) w × (e ≡ map v w)
+        × Down lib lattice v x
 
     abbrev Comes : ℕ → ℕ → Type 0
     Comes e x = Lead lib lattice e x ⊎ Below e x
@@ -167,20 +182,31 @@ module _ (s : Split) (lattice : ℕ) (order : Order) (join meet : ℕ → ℕ) (
     comes_on : (e n site u a g x : ℕ) → Stands lib lattice n (Enter site u a) → Matches lib lattice g a x → Comes e u
         → Comes e x
     comes_on e n site u a g x st m (inl lead) = inl (lead_on e g a x m (call_on e n site u a st lead))
-    comes_on e n site u a g x st m (inr (v, w, node, copy, same, d)) = inr (v, w, node, copy, same, down_on lib lattice g v a x (into v u a site n d st) m)
+    comes_on e n site u a g x st m (inr (v, w, node, copy, same, d)) =
+        inr (v, w, node, copy, same, down_on lib lattice g v a x (into v u a site n d st) m)
 
     comes : (e x : ℕ) (sites : List ℕ) → IsCopy lib depth (owner_of lib x) sites → In e x sites → Comes e x
     comes e x [] copy p = inl (inl p)
     comes e x (site ∷ sites) copy (inl p) = inl (inl p)
     comes e x (site ∷ sites) copy (inr (inl (n, u, a, st, r, is))) =
         let path = inner_path n site u a x st is in
-        let same : owner_of lib x ≡ owner_of lib a = end_owner lib lattice path.0 a x path.1 ∙ sym (start_owner lib lattice path.0 a x path.1) in
-        let shorter = copy_off lib depth (owner_of lib u) (owner_of lib a) site sites (subst (λ o. IsCopy lib depth o (site ∷ sites)) same copy) (entering lib lattice lib_owned n site u a st) in
+        let same : owner_of lib x ≡ owner_of lib a =
+        end_owner lib lattice path.0 a x path.1 ∙ sym (start_owner lib lattice path.0 a x path.1) in
+        let shorter = copy_off lib depth (owner_of lib u) (owner_of lib a) site sites
+        (subst (λ o. IsCopy lib depth o (site ∷ sites)) same copy) (entering lib lattice lib_owned n site u a st) in
         comes_on e n site u a path.0 x st path.1 (comes e u sites shorter r)
     comes e x (site ∷ sites) copy (inr (inr (v, ((node, far), (same, is))))) =
         let path = node_path v x node is in
-        let one : owner_of lib x ≡ owner_of lib v = end_owner lib lattice path.0 v x path.1 ∙ sym (start_owner lib lattice path.0 v x path.1) in
-        inr (v, site ∷ sites, node, subst (λ o. IsCopy lib depth o (site ∷ sites)) one copy, same, down_on lib lattice path.0 v v x (here v) path.1)
+        let one : owner_of lib x ≡ owner_of lib v =
+        end_owner lib lattice path.0 v x path.1 ∙ sym (start_owner lib lattice path.0 v x path.1) in
+        inr (
+          v,
+          site ∷ sites,
+          node,
+          subst (λ o. IsCopy lib depth o (site ∷ sites)) one copy,
+          same,
+          down_on lib lattice path.0 v v x (here v) path.1,
+        )
 
     -- at a node's own copy
     at_node : (v : ℕ) (w : List ℕ) → s.node v ≡ true → at (served s) map v w ≡ map v w
@@ -195,42 +221,51 @@ module _ (s : Split) (lattice : ℕ) (order : Order) (join meet : ℕ → ℕ) (
           | inr top ↦ top (map v w) (met.rises.elements v w)
           | inl found ↦
               let here = front s s.words s.client lattice found.0 (Bound v lattice (meet v)) found.1 in
-              subst (λ x. leq order x (meet v) ≡ true) (at_node v w node) (met.bound found.0 (meet v) v w here (copy_of s s.library (s.words ++ s.client) depth (owner_of lib v) w copy))
+              subst (λ x. leq order x (meet v) ≡ true) (at_node v w node) (met.bound found.0 (meet v) v w here
+              (copy_of s s.library (s.words ++ s.client) depth (owner_of lib v) w copy))
         ]) low
 
     under : (n x b e : ℕ) (sites : List ℕ) → Stands lib lattice n (Bound x lattice b)
         → IsCopy lib depth (owner_of lib x) sites → In e x sites → leq order e b ≡ true
     under n x b e sites st copy r = elim (comes e x sites copy r) [
       | inl lead ↦ given.safe n x b e st lead
-      | inr below ↦ subst (λ d. leq order d b ≡ true) (sym below.4) (bounded below.0 n b below.1 below.2 below.3 (x, below.5, st))
+      | inr below ↦
+          subst (λ d. leq order d b ≡ true) (sym below.4) (bounded below.0 n b below.1 below.2 below.3 (x, below.5, st))
     ]
 
     -- what comes to a node where the client leaves is below the node's element
     words_flow : (v u : ℕ) (w : List ℕ) → s.node v ≡ true → s.node u ≡ true → IsCopy lib depth (owner_of lib u) w
         → (g : ℕ) → Matches lib lattice g v u → leq order (map v w) (map u w) ≡ true
     words_flow v u w node_v node_u copy g m = elim (split_path lib lattice g v u m) [
-      | inl same ↦ subst (λ x. leq order (map v w) (map x w) ≡ true) same (given.lat.ordered.same (map v w) (met.rises.elements v w))
+      | inl same ↦ subst (λ x. leq order (map v w) (map x w) ≡ true) same
+          (given.lat.ordered.same (map v w) (met.rises.elements v w))
       | inr match ↦ elim (given.words.has_le v u node_v node_u match) [
-        | inl same ↦ subst (λ x. leq order (map v w) (map x w) ≡ true) same (given.lat.ordered.same (map v w) (met.rises.elements v w))
+        | inl same ↦ subst (λ x. leq order (map v w) (map x w) ≡ true) same
+            (given.lat.ordered.same (map v w) (met.rises.elements v w))
         | inr found ↦
             let st = front s s.words s.client lattice found.0 (Le v u) found.1 in
             let other : owner_of lib v ≡ Function g = start_owner lib lattice g v u m in
             let one : owner_of lib u ≡ owner_of lib v = end_owner lib lattice g v u m ∙ sym other in
             let copy_v : IsCopy lib depth (Function g) w = subst (λ o. IsCopy lib depth o w) (one ∙ other) copy in
-            let there : IsCopy (served s) depth (Function g) w = copy_of s s.library (s.words ++ s.client) depth (Function g) w copy_v in
-            let raised = met.rises.le found.0 v u w st (subst (λ o. IsCopy (served s) depth (either o (owner_of (served s) u)) w) (sym other) there) in
-            subst (λ x. leq order x (map u w) ≡ true) (at_node v w node_v) (subst (λ x. leq order (at (served s) map v w) x ≡ true) (at_node u w node_u) raised)
+            let there : IsCopy (served s) depth (Function g) w =
+            copy_of s s.library (s.words ++ s.client) depth (Function g) w copy_v in
+            let raised = met.rises.le found.0 v u w st
+            (subst (λ o. IsCopy (served s) depth (either o (owner_of (served s) u)) w) (sym other) there) in
+            subst (λ x. leq order x (map u w) ≡ true) (at_node v w node_v)
+            (subst (λ x. leq order (at (served s) map v w) x ≡ true) (at_node u w node_u) raised)
       ]
     ]
 
     words_const : (e v : ℕ) (w : List ℕ) → s.node v ≡ true → IsCopy lib depth (owner_of lib v) w
         → Returning lib lattice e v → leq order e (map v w) ≡ true
     words_const e v w node copy p =
-        given.lat.ordered.through e (join v) (map v w) ((given.words.joins v node).upper e p) (elim (given.words.has_const v node) [
+        given.lat.ordered.through e (join v) (map v w) ((given.words.joins v node).upper e p)
+        (elim (given.words.has_const v node) [
           | inr bottom ↦ bottom (map v w) (met.rises.elements v w)
           | inl found ↦
               let st = front s s.words s.client lattice found.0 (Const lattice (join v) v) found.1 in
-              subst (λ x. leq order (join v) x ≡ true) (at_node v w node) (met.rises.const found.0 (join v) v w st (copy_of s s.library (s.words ++ s.client) depth (owner_of lib v) w copy))
+              subst (λ x. leq order (join v) x ≡ true) (at_node v w node) (met.rises.const found.0 (join v) v w st
+              (copy_of s s.library (s.words ++ s.client) depth (owner_of lib v) w copy))
         ])
 
     out : (e v site : ℕ) (sites : List ℕ) → s.node v ≡ true → foreign s given.split site ≡ true
@@ -242,7 +277,8 @@ module _ (s : Split) (lattice : ℕ) (order : Order) (join meet : ℕ → ℕ) (
         absurd (own_site s given.split site u a (entering lib lattice lib_owned n site u a st) mine.0 far)
     out e v site sites node far copy (inr (inr (u, ((node_u, far_u), (same, is))))) =
         let path = node_path u v node_u is in
-        subst (λ d. leq order d (map v (site ∷ sites)) ≡ true) (sym same) (words_flow u v (site ∷ sites) node_u node copy path.0 path.1)
+        subst (λ d. leq order d (map v (site ∷ sites)) ≡ true) (sym same)
+        (words_flow u v (site ∷ sites) node_u node copy path.0 path.1)
 
     abbrev Among : ℕ → List ℕ → ℕ → Type 0
     Among x sites e = In e x sites × (e < size order)
@@ -257,11 +293,13 @@ module _ (s : Split) (lattice : ℕ) (order : Order) (join meet : ℕ → ℕ) (
 
     abbrev low : (x : ℕ) (sites : List ℕ) → (r : ℕ) × IsLeastOver order (Among x sites) r
     low x sites = least_over order (Among x sites) (λ e. test_of (Among x sites e) (among_tells x sites e)) given.lat
-        (λ e is. (test_on (Among x sites e) (among_tells x sites e) is, is.1)) (λ e r. test_off (Among x sites e) (among_tells x sites e) r)
+        (λ e is. (test_on (Among x sites e) (among_tells x sites e) is, is.1))
+        (λ e r. test_off (Among x sites e) (among_tells x sites e) r)
 
     raised : (u v : ℕ) (one other : List ℕ) → ((e : ℕ) → In e u one → In e v other)
         → leq order (low u one).0 (low v other).0 ≡ true
-    raised u v one other h = (low u one).1.least (low v other).0 (low v other).1.element (λ e r. (low v other).1.upper e (h e r.0, r.1))
+    raised u v one other h =
+        (low u one).1.least (low v other).0 (low v other).1.element (λ e r. (low v other).1.upper e (h e r.0, r.1))
 
     abbrev pick : Bool → ℕ → List ℕ → ℕ
     pick true x sites = (low x sites).0
@@ -308,11 +346,14 @@ module _ (s : Split) (lattice : ℕ) (order : Order) (join meet : ℕ → ℕ) (
     le_on n u v sites st copy = elim (parted s s.library s.client lattice n (Le u v) st) [
       | inl own ↦
           let mine = given.split.library n (Le u v) (has_of lib lattice n (Le u v) own) in
-          between _ _ _ _ (at_mine u sites mine.0) (at_mine v sites mine.1) (raised u v sites sites (λ e r. flowed e n u v sites own r))
+          between _ _ _ _ (at_mine u sites mine.0) (at_mine v sites mine.1)
+          (raised u v sites sites (λ e r. flowed e n u v sites own r))
       | inr found ↦
-          let other = given.split.client found.0 (Le u v) (has_of (of_part s s.client) lattice found.0 (Le u v) found.1) in
+          let other =
+          given.split.client found.0 (Le u v) (has_of (of_part s s.client) lattice found.0 (Le u v) found.1) in
           let there = back s s.words s.client lattice found.0 (Le u v) found.1 in
-          between _ _ _ _ (at_other u sites other.0) (at_other v sites other.1) (met.rises.le there.0 u v sites there.1 (to_served _ sites copy))
+          between _ _ _ _ (at_other u sites other.0) (at_other v sites other.1)
+          (met.rises.le there.0 u v sites there.1 (to_served _ sites copy))
     ]
 
     const_on : (n e v : ℕ) (sites : List ℕ) → Stands (whole s) lattice n (Const lattice e v)
@@ -320,11 +361,14 @@ module _ (s : Split) (lattice : ℕ) (order : Order) (join meet : ℕ → ℕ) (
     const_on n e v sites st copy = elim (parted s s.library s.client lattice n (Const lattice e v) st) [
       | inl own ↦
           let mine = given.split.library n (Const lattice e v) (has_of lib lattice n (Const lattice e v) own) in
-          between e _ e _ refl (at_mine v sites mine) ((low v sites).1.upper e (anywhere e v sites (start v n own), given.names.const n e v st))
+          between e _ e _ refl (at_mine v sites mine)
+          ((low v sites).1.upper e (anywhere e v sites (start v n own), given.names.const n e v st))
       | inr found ↦
-          let other = given.split.client found.0 (Const lattice e v) (has_of (of_part s s.client) lattice found.0 (Const lattice e v) found.1) in
+          let other = given.split.client found.0 (Const lattice e v)
+          (has_of (of_part s s.client) lattice found.0 (Const lattice e v) found.1) in
           let there = back s s.words s.client lattice found.0 (Const lattice e v) found.1 in
-          between e _ e _ refl (at_other v sites other) (met.rises.const there.0 e v sites there.1 (to_served _ sites copy))
+          between e _ e _ refl (at_other v sites other)
+          (met.rises.const there.0 e v sites there.1 (to_served _ sites copy))
     ]
 
     whole_call : (site : ℕ) (outer inner : Owner) → Calls (whole s) site outer inner → Calls lib site outer inner
@@ -336,21 +380,27 @@ module _ (s : Split) (lattice : ℕ) (order : Order) (join meet : ℕ → ℕ) (
     enter_on n t u x site sites st there copy fits = elim (parted s s.library s.client lattice n (Enter t u x) st) [
       | inl own ↦
           let mine = given.split.library n (Enter t u x) (has_of lib lattice n (Enter t u x) own) in
-          between _ _ _ _ (at_mine u sites mine.0) (at_mine x (t ∷ sites) mine.1) (raised u x sites (t ∷ sites) (λ e r. entered e n t u x sites own r))
+          between _ _ _ _ (at_mine u sites mine.0) (at_mine x (t ∷ sites) mine.1)
+          (raised u x sites (t ∷ sites) (λ e r. entered e n t u x sites own r))
       | inr found ↦
-          let client = given.split.client found.0 (Enter t u x) (has_of (of_part s s.client) lattice found.0 (Enter t u x) found.1) in
+          let client = given.split.client found.0 (Enter t u x)
+          (has_of (of_part s s.client) lattice found.0 (Enter t u x) found.1) in
           let k = back s s.words s.client lattice found.0 (Enter t u x) found.1 in
-          let call = whole_call t (owner_of lib u) (owner_of lib x) (entering (whole s) lattice given.split.owned n t u x st) in
+          let call =
+          whole_call t (owner_of lib u) (owner_of lib x) (entering (whole s) lattice given.split.owned n t u x st) in
           let far = other_site s given.split t u x call client.0 in
           let rises = met.rises.enter k.0 t u x site sites k.1 there (to_served _ sites copy) fits in
           elim (mine_or_other s given.split x) [
             | inr other ↦ between _ _ _ _ (at_other u sites client.0) (at_other x (t ∷ sites) other) rises
             | inl mine ↦
                 let node = client.1 mine in
-                let into : In (map x (t ∷ sites)) x (t ∷ sites) = inr (inr (x, ((node, far), (refl, node_test x x mine.0 node (stay mine.0 x mine.1))))) in
-                let up : leq order (map x (t ∷ sites)) (low x (t ∷ sites)).0 ≡ true = (low x (t ∷ sites)).1.upper (map x (t ∷ sites)) (into, met.rises.elements x (t ∷ sites)) in
+                let into : In (map x (t ∷ sites)) x (t ∷ sites) =
+                inr (inr (x, ((node, far), (refl, node_test x x mine.0 node (stay mine.0 x mine.1))))) in
+                let up : leq order (map x (t ∷ sites)) (low x (t ∷ sites)).0 ≡ true =
+                (low x (t ∷ sites)).1.upper (map x (t ∷ sites)) (into, met.rises.elements x (t ∷ sites)) in
                 between _ _ _ _ (at_other u sites client.0) (at_mine x (t ∷ sites) mine)
-                (given.lat.ordered.through _ (map x (t ∷ sites)) _ (subst (λ d. leq order (at (served s) map u sites) d ≡ true) (at_node x (t ∷ sites) node) rises) up)
+                (given.lat.ordered.through _ (map x (t ∷ sites)) _
+                (subst (λ d. leq order (at (served s) map u sites) d ≡ true) (at_node x (t ∷ sites) node) rises) up)
           ]
     ]
 
@@ -360,24 +410,31 @@ module _ (s : Split) (lattice : ℕ) (order : Order) (join meet : ℕ → ℕ) (
     leave_on n t y v site sites st there copy fits = elim (parted s s.library s.client lattice n (Leave t y v) st) [
       | inl own ↦
           let mine = given.split.library n (Leave t y v) (has_of lib lattice n (Leave t y v) own) in
-          between _ _ _ _ (at_mine y (t ∷ sites) mine.0) (at_mine v sites mine.1) (raised y v (t ∷ sites) sites (λ e r. left e n t y v sites own r))
+          between _ _ _ _ (at_mine y (t ∷ sites) mine.0) (at_mine v sites mine.1)
+          (raised y v (t ∷ sites) sites (λ e r. left e n t y v sites own r))
       | inr found ↦
-          let client = given.split.client found.0 (Leave t y v) (has_of (of_part s s.client) lattice found.0 (Leave t y v) found.1) in
+          let client = given.split.client found.0 (Leave t y v)
+          (has_of (of_part s s.client) lattice found.0 (Leave t y v) found.1) in
           let k = back s s.words s.client lattice found.0 (Leave t y v) found.1 in
-          let call = whole_call t (owner_of lib v) (owner_of lib y) (leaving (whole s) lattice given.split.owned n t y v st) in
+          let call =
+          whole_call t (owner_of lib v) (owner_of lib y) (leaving (whole s) lattice given.split.owned n t y v st) in
           let far = other_site s given.split t v y call client.0 in
           let rises = met.rises.leave k.0 t y v site sites k.1 there (to_served _ sites copy) fits in
           elim (mine_or_other s given.split y) [
             | inr other ↦ between _ _ _ _ (at_other y (t ∷ sites) other) (at_other v sites client.0) rises
             | inl mine ↦
                 let node = client.1 mine in
-                let home : owner_of lib v ≡ site.owner = call.outer_is ∙ ap (λ (x : Site). x.owner) (site_is (sym call.there ∙ there)) in
+                let home : owner_of lib v ≡ site.owner =
+                call.outer_is ∙ ap (λ (x : Site). x.owner) (site_is (sym call.there ∙ there)) in
                 let inner : IsCopy lib depth (owner_of lib y) (t ∷ sites) =
-                copy_on lib depth (owner_of lib v) (owner_of lib y) t sites (subst (λ o. IsCopy lib depth o sites) (sym home) (to_lib site.owner sites copy)) call (omega (arith, fits)) in
+                copy_on lib depth (owner_of lib v) (owner_of lib y) t sites (subst (λ o. IsCopy lib depth o sites)
+                (sym home) (to_lib site.owner sites copy)) call (omega (arith, fits)) in
                 let down : leq order (low y (t ∷ sites)).0 (map y (t ∷ sites)) ≡ true =
-                (low y (t ∷ sites)).1.least (map y (t ∷ sites)) (met.rises.elements y (t ∷ sites)) (λ e r. out e y t sites node far inner r.0) in
+                (low y (t ∷ sites)).1.least (map y (t ∷ sites)) (met.rises.elements y (t ∷ sites))
+                (λ e r. out e y t sites node far inner r.0) in
                 between _ _ _ _ (at_mine y (t ∷ sites) mine) (at_other v sites client.0)
-                (given.lat.ordered.through _ (map y (t ∷ sites)) _ down (subst (λ d. leq order d (at (served s) map v sites) ≡ true) (at_node y (t ∷ sites) node) rises))
+                (given.lat.ordered.through _ (map y (t ∷ sites)) _ down
+                (subst (λ d. leq order d (at (served s) map v sites) ≡ true) (at_node y (t ∷ sites) node) rises))
           ]
     ]
 
@@ -386,9 +443,11 @@ module _ (s : Split) (lattice : ℕ) (order : Order) (join meet : ℕ → ℕ) (
     bound_on n b v sites st copy = elim (parted s s.library s.client lattice n (Bound v lattice b) st) [
       | inl own ↦
           let mine = given.split.library n (Bound v lattice b) (has_of lib lattice n (Bound v lattice b) own) in
-          between _ b _ b (at_mine v sites mine) refl ((low v sites).1.least b (given.names.bound n v b st) (λ e r. under n v b e sites own (to_lib _ sites copy) r.0))
+          between _ b _ b (at_mine v sites mine) refl ((low v sites).1.least b (given.names.bound n v b st)
+          (λ e r. under n v b e sites own (to_lib _ sites copy) r.0))
       | inr found ↦
-          let other = given.split.client found.0 (Bound v lattice b) (has_of (of_part s s.client) lattice found.0 (Bound v lattice b) found.1) in
+          let other = given.split.client found.0 (Bound v lattice b)
+          (has_of (of_part s s.client) lattice found.0 (Bound v lattice b) found.1) in
           let there = back s s.words s.client lattice found.0 (Bound v lattice b) found.1 in
           between _ b _ b (at_other v sites other) refl (met.bound there.0 b v sites there.1 (to_served _ sites copy))
     ]
@@ -408,5 +467,7 @@ module _ (s : Split) (lattice : ℕ) (order : Order) (join meet : ℕ → ℕ) (
 -- where the words with the client are accepted, the library with the client is
 pub served_is_whole : ServedIsWhole
 served_is_whole s lattice order join meet t given accepted depth =
-    let before = accepted depth in
-    (made s lattice order join meet t given depth before.0 before.1, made_meets s lattice order join meet t given depth before.0 before.1)
+    let before = accepted depth in (
+      made s lattice order join meet t given depth before.0 before.1,
+      made_meets s lattice order join meet t given depth before.0 before.1,
+    )

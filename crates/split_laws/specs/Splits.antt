@@ -1,6 +1,5 @@
 -- A system in two parts: a library, and a client that meets it at some variables of the library's functions alone.
--- Words stand
--- for the library: constraints on those variables.
+-- Words stand for the library: constraints on those variables.
 use Rattle.std.specs.Prelude.{◌≡◌, ℕ, ◌<◌, Bool, true, false, List, ◌++◌, ◌⊎◌, ◌↔◌}
 use Rattle.qual_base.specs.declared.places.Owner.{Owner}
 use Rattle.qual_base.specs.declared.places.Owner.TheVariants.{Function}
@@ -96,8 +95,7 @@ pub record IsGreatestUnder (order : Order) (In : ℕ → Type 0) (r : ℕ) : Typ
   pub greatest : (d : ℕ) → d < size order → ((e : ℕ) → In e → leq order d e ≡ true) → leq order d r ≡ true
 
 -- what the words say: at each node the join of all that comes there with no call open, the meet of the bounds that are
--- reached,
--- and the nodes to which matched paths lead; a bottom and a top are left out
+-- reached, and the nodes to which matched paths lead; a bottom and a top are left out
 pub record AreWords (s : Split) (lattice : ℕ) (order : Order) (join meet : ℕ → ℕ) : Type 0 where
   pub joins : (v : ℕ) → s.node v ≡ true → IsLeastOver order (λ e. Returning (alone s) lattice e v) (join v)
   pub meets : (v : ℕ) → s.node v ≡ true
@@ -109,15 +107,16 @@ pub record AreWords (s : Split) (lattice : ℕ) (order : Order) (join meet : ℕ
   pub no_enter : (n t u v : ℕ) → Stands (of_part s s.words) lattice n (Enter t u v) → ⊥
   pub no_leave : (n t u v : ℕ) → Stands (of_part s s.words) lattice n (Leave t u v) → ⊥
   pub has_const : (v : ℕ) → s.node v ≡ true
-      → ((n : ℕ) × Stands (of_part s s.words) lattice n (Const lattice (join v) v)) ⊎ ((d : ℕ) → d < size order → leq order (join v) d ≡ true)
+      → ((n : ℕ) × Stands (of_part s s.words) lattice n (Const lattice (join v) v))
+      ⊎ ((d : ℕ) → d < size order → leq order (join v) d ≡ true)
   pub has_bound : (v : ℕ) → s.node v ≡ true
-      → ((n : ℕ) × Stands (of_part s s.words) lattice n (Bound v lattice (meet v))) ⊎ ((d : ℕ) → d < size order → leq order d (meet v) ≡ true)
+      → ((n : ℕ) × Stands (of_part s s.words) lattice n (Bound v lattice (meet v)))
+      ⊎ ((d : ℕ) → d < size order → leq order d (meet v) ≡ true)
   pub has_le : (v u : ℕ) → s.node v ≡ true → s.node u ≡ true → Match (alone s) lattice v u
       → (v ≡ u) ⊎ ((n : ℕ) × Stands (of_part s s.words) lattice n (Le v u))
 
 -- Tests of the library: what comes to a variable with no call open, what is joined from an inner end or a node, and the
--- elements
--- of the bounds that are reached from a node.
+-- elements of the bounds that are reached from a node.
 pub record SplitTests : Type 0 where
   pub returned : ℕ → ℕ → Bool
   pub joined : ℕ → ℕ → Bool
@@ -141,10 +140,14 @@ pub record SplitPremises (s : Split) (lattice : ℕ) (order : Order) (join meet 
 
 -- Where the words with the client are accepted, so is the library with the client.
 abbrev pub ServedIsWhole : Type 0
-ServedIsWhole = (s : Split) (lattice : ℕ) (order : Order) (join meet : ℕ → ℕ) (t : SplitTests) → SplitPremises s lattice order join meet t →
+ServedIsWhole =
+    (s : Split) (lattice : ℕ) (order : Order) (join meet : ℕ → ℕ) (t : SplitTests)
+    → SplitPremises s lattice order join meet t →
     IsAcceptedIn (served s) lattice order → IsAcceptedIn (whole s) lattice order
 
 -- And the other way round.
 abbrev pub WholeIsServed : Type 0
-WholeIsServed = (s : Split) (lattice : ℕ) (order : Order) (join meet : ℕ → ℕ) (t : SplitTests) → SplitPremises s lattice order join meet t →
+WholeIsServed =
+    (s : Split) (lattice : ℕ) (order : Order) (join meet : ℕ → ℕ) (t : SplitTests)
+    → SplitPremises s lattice order join meet t →
     IsAcceptedIn (whole s) lattice order → IsAcceptedIn (served s) lattice order

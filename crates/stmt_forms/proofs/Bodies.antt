@@ -1,6 +1,7 @@
 -- The items of a block are read in one list behind the declarations of labels.
 use Rattle.std.specs.Prelude.{not}
 use Rattle.std.proofs.Common.{◌≡◌, ℕ, zero, suc, ◌-◌, Bool, true, false, if◌then◌else◌, List, [], ◌∷◌, ◌++◌, length, Some, None, Ok, Err, refl, sym, ◌∙◌, ap, append_assoc}
+use Rattle.std.proofs.lemmas.List.{append-nil}
 use Rattle.c_words.specs.declared.kinds.TokenKind.{TokenKind}
 use Rattle.c_tree.specs.Tree.{BlockItem}
 use Rattle.c_tree.specs.declared.lexeme.Lexeme.{Lexeme}
@@ -24,41 +25,42 @@ module _ {T : Type 0} (turn : Turn (List T)) (known : List T) where
 
   -- behind known items a turn does what it does from none on, where the turns behind it do
   one_behind : (n : ℕ)
-      → ((xs : List T) (s : HeldScopes) (ts : List Lexeme) → turns turn n (known ++ xs) s ts ≡ and_then (turns turn n xs s ts) (λ x. Ok (behind_known x))) →
+      → ((xs : List T) (s : HeldScopes) (ts : List Lexeme)
+      → turns turn n (known ++ xs) s ts ≡ and_then (turns turn n xs s ts) (λ x. Ok (behind_known x))) →
       (test : Bool) (read : Read T) (xs : List T) (s : HeldScopes) (ts : List Lexeme) →
       one_turn test read n (known ++ xs) s ts ≡ and_then (one_turn test read n xs s ts) (λ x. Ok (behind_known x))
   unfolding and_then
   one_behind n same false read xs s ts = refl
   one_behind n same true (Err e) xs s ts = refl
   one_behind n same true (Ok x) xs s ts =
-      ap (λ ys. turns turn n ys x.scopes x.rest) (append_assoc known xs (x.tree ∷ [])) ∙ same (xs ++ x.tree ∷ []) x.scopes x.rest
+      ap (λ ys. turns turn n ys x.scopes x.rest) (append_assoc known xs (x.tree ∷ []))
+      ∙ same (xs ++ x.tree ∷ []) x.scopes x.rest
 
 module _ {T : Type 0} (begins : TokenKind → Bool) (read : Reader T) (known : List T) where
   turns_behind : (n : ℕ) (xs : List T) (s : HeldScopes) (ts : List Lexeme) →
       turns (repeated_turn begins read) n (known ++ xs) s ts
-      ≡ and_then (turns (repeated_turn begins read) n xs s ts) (λ x. Ok (behind_known (repeated_turn begins read) known x))
+      ≡ and_then (turns (repeated_turn begins read) n xs s ts)
+      (λ x. Ok (behind_known (repeated_turn begins read) known x))
   unfolding turns and_then
   turns_behind zero xs s ts = refl
   turns_behind (suc n) xs s ts =
       one_behind (repeated_turn begins read) known n (turns_behind n) (begins (kind_at ts)) (read s ts) xs s ts
 
-append_none : {T : Type 0} (xs : List T) → xs ++ [] ≡ xs
-append_none [] = refl
-append_none (x ∷ xs) = ap (λ more. x ∷ more) (append_none xs)
-
 -- a row behind known items is read as the row from none on, and these stand before it
-row_behind : {T A : Type 0} (begins : TokenKind → Bool) (read : Reader T) (known : List T) (then_so : List T → Reader A) (s : HeldScopes) (ts : List Lexeme) →
+row_behind : {T A : Type 0} (begins : TokenKind → Bool) (read : Reader T) (known : List T) (then_so : List T → Reader A)
+    (s : HeldScopes) (ts : List Lexeme) →
     (repeated begins read s ts >>= λ x. then_so (known ++ x.tree) x.scopes x.rest)
     ≡ (run (repeated_turn begins read) known s ts >>= λ x. then_so x.tree x.scopes x.rest)
 unfolding repeated run and_then
 row_behind {T} {A} begins read known then_so s ts =
     sym (ap (λ r. and_then r (λ x. then_so x.tree x.scopes x.rest))
-    (ap (λ ys. turns (repeated_turn begins read) (suc (length ts)) ys s ts) (sym (append_none known))
+    (ap (λ ys. turns (repeated_turn begins read) (suc (length ts)) ys s ts) (sym (append-nil known))
     ∙ turns_behind begins read known (suc (length ts)) [] s ts)
     ∙ through (turns (repeated_turn begins read) (suc (length ts)) [] s ts))
   where
     through : (r : Read (List T)) →
-        and_then (and_then r (λ x. Ok (behind_known (repeated_turn begins read) known x))) (λ x. then_so x.tree x.scopes x.rest)
+        and_then (and_then r (λ x. Ok (behind_known (repeated_turn begins read) known x)))
+        (λ x. then_so x.tree x.scopes x.rest)
         ≡ and_then r (λ x. then_so (known ++ x.tree) x.scopes x.rest)
     through (Ok x) = refl
     through (Err e) = refl
@@ -66,15 +68,19 @@ row_behind {T} {A} begins read known then_so s ts =
 -- a block with these items, behind its opening brace
 abbrev closed_with : ℕ → List BlockItem → Reader Block
 closed_with opening items s ts =
-    token_at is_close_brace s ts >>= λ closing. ends (record { opening = opening; items = block_items_from items; closing = closing.tree }) closing.scopes closing.rest
+    token_at is_close_brace s ts >>= λ closing. ends
+    (record { opening = opening; items = block_items_from items; closing = closing.tree }) closing.scopes closing.rest
 
 behind_labels : (depth room opening : ℕ) (r : Read (List BlockItem)) →
-    (r >>= λ labels. repeated (λ kind. not (is_close_brace kind)) (block_item_with (knot depth) room) labels.scopes labels.rest >>= λ items. closed_with opening (labels.tree ++ items.tree) items.scopes items.rest)
-    ≡ ((r >>= λ labels. more_items_at depth labels.tree room labels.scopes labels.rest) >>= λ items. closed_with opening items.tree items.scopes items.rest)
+    (r >>= λ labels. repeated (λ kind. not (is_close_brace kind)) (block_item_with (knot depth) room) labels.scopes
+    labels.rest >>= λ items. closed_with opening (labels.tree ++ items.tree) items.scopes items.rest)
+    ≡ ((r >>= λ labels. more_items_at depth labels.tree room labels.scopes labels.rest) >>= λ items.
+    closed_with opening items.tree items.scopes items.rest)
 unfolding and_then
 behind_labels depth room opening (Err e) = refl
 behind_labels depth room opening (Ok labels) =
-    row_behind (λ kind. not (is_close_brace kind)) (block_item_with (knot depth) room) labels.tree (closed_with opening) labels.scopes labels.rest
+    row_behind (λ kind. not (is_close_brace kind)) (block_item_with (knot depth) room) labels.tree
+    (closed_with opening) labels.scopes labels.rest
 
 -- the body of a block
 pub body_is : (depth room : ℕ) (s : HeldScopes) (ts : List Lexeme)

@@ -5,7 +5,7 @@ use Rattle.c_tree.specs.Tree.{Stmt, BlockItem, SpecWords, block_decl, block_stmt
 use Rattle.c_tree.specs.View.{block_item_of}
 use Rattle.c_nodes.specs.declared.sized.SizedBlockItem.{SizedBlockItem}
 use Rattle.c_nodes.specs.declared.sized.SizedBlockItems.{SizedBlockItems}
-use Rattle.c_reading.specs.declared.kinds.Fault.TheVariants.{Unexpected}
+use Rattle.c_reading.specs.declared.kinds.FaultKind.TheVariants.{Unexpected}
 use Rattle.c_reading.specs.Reading.{Reader, Turn, ◌>>=◌, ends, fits, refuses, kind_at, take_one, token_at, run, repeated, repeated_turn}
 use Rattle.c_reading.specs.Expressing.{begins_expr}
 use Rattle.c_reading.specs.Specifying.{begins_specs}
@@ -14,11 +14,11 @@ use Rattle.c_reading.specs.Stating.{declaration_with, declaration_from, block_it
 use Rattle.c_reading.specs.Parts.{Block, nothing, block_items_from}
 use Rattle.c_reading.specs.Knot.{knot}
 use Rattle.reader_base.specs.declared.fault.ReadError.{ReadError}
-use Rattle.reader_base.specs.declared.place.Place.{Place}
+use Rattle.reader_base.specs.declared.cursor.Cursor.{Cursor}
 use Rattle.reader_base.specs.Gives.{Reads}
 
 -- an item of a block is read as the reader of lists gives it
-abbrev pub ReadsItem : Place → Place → Result SizedBlockItem ReadError → Reader BlockItem → Type 0
+abbrev pub ReadsItem : Cursor → Cursor → Result SizedBlockItem ReadError → Reader BlockItem → Type 0
 ReadsItem before after result reader = Reads (λ x. block_item_of x.item) before after result reader
 
 -- the name of a type alone
@@ -27,19 +27,23 @@ typedef_word token name = trees.more_words (trees.typedef_name (record { token =
 
 -- a `_Static_assert` as an item of a block
 abbrev pub assert_item_with : ℕ → Reader BlockItem
-assert_item_with room s ts = fits 1 room ts (assert_at s ts >>= λ it. ends (block_decl (decl_assert it.tree)) it.scopes it.rest)
+assert_item_with room s ts =
+    fits 1 room ts (assert_at s ts >>= λ it. ends (block_decl (decl_assert it.tree)) it.scopes it.rest)
 
 -- a declaration as an item of a block, behind ext*
 abbrev pub declaration_item_with : ℕ → List ℕ → ℕ → Reader BlockItem
-declaration_item_with depth exts room s ts = declaration_with (knot depth) exts room s ts >>= λ d. ends (block_decl (decl_declaration d.tree)) d.scopes d.rest
+declaration_item_with depth exts room s ts =
+    declaration_with (knot depth) exts room s ts >>= λ d. ends (block_decl (decl_declaration d.tree)) d.scopes d.rest
 
 -- a declaration as an item of a block, behind words that were read already
 abbrev pub item_from_with : ℕ → SpecWords → ℕ → Reader BlockItem
-item_from_with depth known room s ts = declaration_from (knot depth) known room s ts >>= λ d. ends (block_decl (decl_declaration d.tree)) d.scopes d.rest
+item_from_with depth known room s ts =
+    declaration_from (knot depth) known room s ts >>= λ d. ends (block_decl (decl_declaration d.tree)) d.scopes d.rest
 
 -- a declaration that begins with this typedef name
 abbrev pub typed_item_with : ℕ → ℕ → ℕ → Reader BlockItem
-typed_item_with depth name room s ts = take_one s ts >>= λ token. item_from_with depth (typedef_word token.tree name) room token.scopes token.rest
+typed_item_with depth name room s ts =
+    take_one s ts >>= λ token. item_from_with depth (typedef_word token.tree name) room token.scopes token.rest
 
 -- an item that begins with no name: a declaration or a statement
 abbrev pub unnamed_item_with : ℕ → ℕ → Reader BlockItem
@@ -69,7 +73,8 @@ more_items_at depth known room s ts = run (item_turn depth room) known s ts
 
 -- LabelDecl* (decl | stmt)*
 abbrev pub items_at : ℕ → ℕ → Reader (List BlockItem)
-items_at depth room s ts = labels_at depth room s ts >>= λ labels. more_items_at depth labels.tree room labels.scopes labels.rest
+items_at depth room s ts =
+    labels_at depth room s ts >>= λ labels. more_items_at depth labels.tree room labels.scopes labels.rest
 
 -- { LabelDecl* (decl | stmt)* }, in a scope that is open
 abbrev pub body_at : ℕ → ℕ → Reader Block
@@ -77,13 +82,17 @@ body_at depth room s ts = do
   opening ← take_one s ts
   items ← items_at depth (room - 1) opening.scopes opening.rest
   closing ← token_at is_close_brace items.scopes items.rest
-  ends (record { opening = opening.tree; items = block_items_from items.tree; closing = closing.tree }) closing.scopes closing.rest
+  ends (record { opening = opening.tree; items = block_items_from items.tree; closing = closing.tree })
+      closing.scopes closing.rest
 
 -- a block as a statement
 abbrev pub block_stmt_with : ℕ → ℕ → Reader Stmt
-block_stmt_with depth room s ts = block_with (knot depth) room s ts >>= λ b. ends (trees.block b.tree.opening b.tree.items b.tree.closing) b.scopes b.rest
+block_stmt_with depth room s ts =
+    block_with (knot depth) room s ts >>= λ b.
+    ends (trees.block b.tree.opening b.tree.items b.tree.closing) b.scopes b.rest
 
 -- an expression statement, where an expression begins
 abbrev pub value_stmt_with : ℕ → ℕ → Reader Stmt
 value_stmt_with depth room s ts =
-    if begins_expr s (kind_at ts) then fits 2 room ts (expr_stmt_with (knot depth) nothing room s ts) else refuses Unexpected ts
+    if begins_expr s (kind_at ts) then fits 2 room ts (expr_stmt_with (knot depth) nothing room s ts)
+    else refuses Unexpected ts

@@ -12,28 +12,29 @@ use Rattle.c_reading.specs.Reading.{Reader, ◌>>=◌, ends, fits, take_one}
 use Rattle.c_reading.specs.Stating.{in_own, if_inside, headed_inside, do_inside, for_inside}
 use Rattle.c_reading.specs.Knot.{knot}
 use Rattle.reader_base.specs.declared.fault.ReadError.{ReadError}
-use Rattle.reader_base.specs.declared.place.Place.{Place}
+use Rattle.reader_base.specs.declared.cursor.Cursor.{Cursor}
 use Rattle.reader_base.specs.Gives.{Reads}
 
 -- an expression that may be left out is read as the reader of lists gives it
-abbrev pub ReadsSomeExpr : Place → Place → Result SizedSomeExpr ReadError → Reader trees.SomeExpr → Type 0
+abbrev pub ReadsSomeExpr : Cursor → Cursor → Result SizedSomeExpr ReadError → Reader trees.SomeExpr → Type 0
 ReadsSomeExpr before after result reader = Reads (λ x. some_expr_from x.tree) before after result reader
 
 -- the `else` of an `if`, if any, is read so
-abbrev pub ReadsElse : Place → Place → Result SizedElse ReadError → Reader trees.SomeElse → Type 0
+abbrev pub ReadsElse : Cursor → Cursor → Result SizedElse ReadError → Reader trees.SomeElse → Type 0
 ReadsElse before after result reader = Reads (λ x. some_else_from x.other) before after result reader
 
 -- the first clause of a `for` is read so
-abbrev pub ReadsStart : Place → Place → Result SizedStart ReadError → Reader trees.ForStart → Type 0
+abbrev pub ReadsStart : Cursor → Cursor → Result SizedStart ReadError → Reader trees.ForStart → Type 0
 ReadsStart before after result reader = Reads (λ x. for_start_of x.start) before after result reader
 
 -- a declaration is read so
-abbrev pub ReadsDeclaration : Place → Place → Result SizedDeclaration ReadError → Reader trees.Declaration → Type 0
+abbrev pub ReadsDeclaration : Cursor → Cursor → Result SizedDeclaration ReadError → Reader trees.Declaration → Type 0
 ReadsDeclaration before after result reader = Reads (λ x. declaration_of x.tree.value) before after result reader
 
 -- ;  alone
 abbrev pub null_with : ℕ → Reader Stmt
-null_with room s ts = fits 1 room ts (take_one s ts >>= λ semi. ends (trees.expr_stmt trees.no_expr semi.tree) semi.scopes semi.rest)
+null_with room s ts =
+    fits 1 room ts (take_one s ts >>= λ semi. ends (trees.expr_stmt trees.no_expr semi.tree) semi.scopes semi.rest)
 
 -- If = if ( expr ) stmt [else stmt], in a scope of its own
 abbrev pub if_with : ℕ → ℕ → Reader Stmt

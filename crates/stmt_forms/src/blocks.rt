@@ -10,10 +10,10 @@ ghost use Rattle.stmt_forms.specs.InBlocks.{label_turn, labels_at, more_items_at
 
 use crate::items::block_item;
 use c_nodes::{SizedBlock, SizedBlockItem, SizedBlockItems};
-use c_reading::{Fault, turns_take_tokens};
+use c_reading::{FaultKind, turns_take_tokens};
 use decl_nodes::{block_labels, block_of};
 use reader_base::{
-    Answer, Ask, Place, ReadError, close_brace, is_close_brace, is_label_word, is_open_brace,
+    Answer, Ask, Cursor, ReadError, close_brace, is_close_brace, is_label_word, is_open_brace,
     kind_at, names, refused, room_for, semicolon, take_one,
 };
 
@@ -30,32 +30,32 @@ fn item_turn<'a, F>(
     lent: &F,
     known: &mut SizedBlockItems,
     room: u16,
-    place: &mut Place<'a>,
+    cursor: &mut Cursor<'a>,
     depth: u32,
 ) -> Result<bool, ReadError>
 where
-    F: Fn(Ask, &mut Place<'a>) -> Result<Answer, ReadError>,
+    F: Fn(Ask, &mut Cursor<'a>) -> Result<Answer, ReadError>,
     requires { Lends F.Fn lent.now depth }
-    ensures { Turns (known_items known.old) (known_items known.new) place.old place.new
+    ensures { Turns (known_items known.old) (known_items known.new) cursor.old cursor.new
         result (item_turn depth room) }
 {
-    if is_close_brace(kind_at(place.rest)) {
+    if is_close_brace(kind_at(cursor.rest)) {
         return Ok(false);
     }
-    let item = block_item(lent, room, place, depth)?;
+    let item = block_item(lent, room, cursor, depth)?;
     known.push(item)?;
     Ok(true)
 }
 
 /// `LabelDecl = __label__ Name (, Name)* ;`.
 #[tactic(auto, unfolding(c_reading::specs::Stating::labels_with, c_reading::specs::Reading::fits, c_reading::specs::Reading::and_then))]
-fn labels_item(room: u16, place: &mut Place, depth: u32) -> Result<SizedBlockItem, ReadError>
-    ensures { ReadsItem place.old place.new result (stating.labels_with (knot depth) room) }
+fn labels_item(room: u16, cursor: &mut Cursor, depth: u32) -> Result<SizedBlockItem, ReadError>
+    ensures { ReadsItem cursor.old cursor.new result (stating.labels_with (knot depth) room) }
 {
-    room_for(1, room, place)?;
-    let keyword = take_one(place)?;
-    let names = names(place)?;
-    let semi = semicolon(place)?;
+    room_for(1, room, cursor)?;
+    let keyword = take_one(cursor)?;
+    let names = names(cursor)?;
+    let semi = semicolon(cursor)?;
     Ok(block_labels(keyword, names, semi))
 }
 
@@ -71,28 +71,28 @@ fn labels_step(room: u16, depth: u32)
 fn label_turn(
     known: &mut SizedBlockItems,
     room: u16,
-    place: &mut Place,
+    cursor: &mut Cursor,
     depth: u32,
 ) -> Result<bool, ReadError>
-    ensures { Turns (known_items known.old) (known_items known.new) place.old place.new
+    ensures { Turns (known_items known.old) (known_items known.new) cursor.old cursor.new
         result (label_turn depth room) }
 {
-    if !is_label_word(kind_at(place.rest)) {
+    if !is_label_word(kind_at(cursor.rest)) {
         return Ok(false);
     }
-    let item = labels_item(room, place, depth)?;
+    let item = labels_item(room, cursor, depth)?;
     known.push(item)?;
     Ok(true)
 }
 
 /// Declarations of labels, as many as stand.
 #[tactic(auto, unfolding(c_reading::specs::Reading::repeated))]
-fn labels(room: u16, place: &mut Place, depth: u32) -> Result<SizedBlockItems, ReadError>
-    ensures { Reads known_items place.old place.new result (labels_at depth room) }
+fn labels(room: u16, cursor: &mut Cursor, depth: u32) -> Result<SizedBlockItems, ReadError>
+    ensures { Reads known_items cursor.old cursor.new result (labels_at depth room) }
 {
     labels_step(room, depth);
-    let mut known = SizedBlockItems::new(place.alloc);
-    while label_turn(&mut known, room, place, depth)? {}
+    let mut known = SizedBlockItems::new(cursor.alloc);
+    while label_turn(&mut known, room, cursor, depth)? {}
     Ok(known)
 }
 
@@ -101,18 +101,18 @@ fn more_items<'a, F>(
     lent: &F,
     first: SizedBlockItems,
     room: u16,
-    place: &mut Place<'a>,
+    cursor: &mut Cursor<'a>,
     depth: u32,
 ) -> Result<SizedBlockItems, ReadError>
 where
-    F: Fn(Ask, &mut Place<'a>) -> Result<Answer, ReadError>,
+    F: Fn(Ask, &mut Cursor<'a>) -> Result<Answer, ReadError>,
     requires { Lends F.Fn lent.now depth }
-    ensures { Reads known_items place.old place.new result
+    ensures { Reads known_items cursor.old cursor.new result
         (more_items_at depth (known_items first) room) }
 {
     items_step(room, depth);
     let mut known = first;
-    while item_turn(lent, &mut known, room, place, depth)? {}
+    while item_turn(lent, &mut known, room, cursor, depth)? {}
     Ok(known)
 }
 
@@ -121,16 +121,16 @@ where
 fn items<'a, F>(
     lent: &F,
     room: u16,
-    place: &mut Place<'a>,
+    cursor: &mut Cursor<'a>,
     depth: u32,
 ) -> Result<SizedBlockItems, ReadError>
 where
-    F: Fn(Ask, &mut Place<'a>) -> Result<Answer, ReadError>,
+    F: Fn(Ask, &mut Cursor<'a>) -> Result<Answer, ReadError>,
     requires { Lends F.Fn lent.now depth }
-    ensures { Reads known_items place.old place.new result (items_at depth room) }
+    ensures { Reads known_items cursor.old cursor.new result (items_at depth room) }
 {
-    let first = labels(room, place, depth)?;
-    more_items(lent, first, room, place, depth)
+    let first = labels(room, cursor, depth)?;
+    more_items(lent, first, room, cursor, depth)
 }
 
 /// The items in their braces.
@@ -138,17 +138,17 @@ where
 fn braced<'a, F>(
     lent: &F,
     room: u16,
-    place: &mut Place<'a>,
+    cursor: &mut Cursor<'a>,
     depth: u32,
 ) -> Result<SizedBlock, ReadError>
 where
-    F: Fn(Ask, &mut Place<'a>) -> Result<Answer, ReadError>,
+    F: Fn(Ask, &mut Cursor<'a>) -> Result<Answer, ReadError>,
     requires { Lends F.Fn lent.now depth }
-    ensures { ReadsBlock place.old place.new result (body_at depth room) }
+    ensures { ReadsBlock cursor.old cursor.new result (body_at depth room) }
 {
-    let opening = take_one(place)?;
-    let items = items(lent, room.saturating_sub(1), place, depth)?;
-    let closing = close_brace(place)?;
+    let opening = take_one(cursor)?;
+    let items = items(lent, room.saturating_sub(1), cursor, depth)?;
+    let closing = close_brace(cursor)?;
     Ok(block_of(opening, items, closing))
 }
 
@@ -157,15 +157,15 @@ where
 pub fn block_body<'a, F>(
     lent: &F,
     room: u16,
-    place: &mut Place<'a>,
+    cursor: &mut Cursor<'a>,
     depth: u32,
 ) -> Result<SizedBlock, ReadError>
 where
-    F: Fn(Ask, &mut Place<'a>) -> Result<Answer, ReadError>,
+    F: Fn(Ask, &mut Cursor<'a>) -> Result<Answer, ReadError>,
     requires { Lends F.Fn lent.now depth }
-    ensures { ReadsBlock place.old place.new result (stating.block_body (knot depth) room) }
+    ensures { ReadsBlock cursor.old cursor.new result (stating.block_body (knot depth) room) }
 {
-    braced(lent, room, place, depth)
+    braced(lent, room, cursor, depth)
 }
 
 /// `{ (decl | stmt)* }`, in a scope of its own (C99, 6.8.2).
@@ -175,20 +175,20 @@ where
 pub fn block<'a, F>(
     lent: &F,
     room: u16,
-    place: &mut Place<'a>,
+    cursor: &mut Cursor<'a>,
     depth: u32,
 ) -> Result<SizedBlock, ReadError>
 where
-    F: Fn(Ask, &mut Place<'a>) -> Result<Answer, ReadError>,
+    F: Fn(Ask, &mut Cursor<'a>) -> Result<Answer, ReadError>,
     requires { Lends F.Fn lent.now depth }
-    ensures { ReadsBlock place.old place.new result (stating.block_with (knot depth) room) }
+    ensures { ReadsBlock cursor.old cursor.new result (stating.block_with (knot depth) room) }
 {
-    if !is_open_brace(kind_at(place.rest)) {
-        return Err(refused(Fault::Unexpected, place.rest));
+    if !is_open_brace(kind_at(cursor.rest)) {
+        return Err(refused(FaultKind::Unexpected, cursor.rest));
     }
-    room_for(1, room, place)?;
-    place.scopes.enter()?;
-    let found = block_body(lent, room, place, depth)?;
-    place.scopes.leave();
+    room_for(1, room, cursor)?;
+    cursor.scopes.enter()?;
+    let found = block_body(lent, room, cursor, depth)?;
+    cursor.scopes.leave();
     Ok(found)
 }

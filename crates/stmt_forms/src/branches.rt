@@ -10,7 +10,7 @@ use c_nodes::{SizedElse, SizedStmt};
 use c_reading::Reach;
 use decl_nodes::{no_else, some_else};
 use reader_base::{
-    Answer, Ask, Begun, Place, ReadError, close_paren, expr_inside, is_else, kind_at, open_paren,
+    Answer, Ask, Begun, Cursor, ReadError, close_paren, expr_inside, is_else, kind_at, open_paren,
     room_for, semicolon, stmt_inside, take_one, while_word,
 };
 
@@ -19,17 +19,17 @@ use reader_base::{
 pub(crate) fn part<'a, F>(
     lent: &F,
     room: u16,
-    place: &mut Place<'a>,
+    cursor: &mut Cursor<'a>,
     depth: u32,
 ) -> Result<SizedStmt, ReadError>
 where
-    F: Fn(Ask, &mut Place<'a>) -> Result<Answer, ReadError>,
+    F: Fn(Ask, &mut Cursor<'a>) -> Result<Answer, ReadError>,
     requires { Lends F.Fn lent.now depth }
-    ensures { ReadsStmt place.old place.new result (stating.part_with (knot depth) room) }
+    ensures { ReadsStmt cursor.old cursor.new result (stating.part_with (knot depth) room) }
 {
-    place.scopes.enter()?;
-    let body = stmt_inside(lent, room, place, depth)?;
-    place.scopes.leave();
+    cursor.scopes.enter()?;
+    let body = stmt_inside(lent, room, cursor, depth)?;
+    cursor.scopes.leave();
     Ok(body)
 }
 
@@ -38,19 +38,19 @@ where
 fn other_branch<'a, F>(
     lent: &F,
     room: u16,
-    place: &mut Place<'a>,
+    cursor: &mut Cursor<'a>,
     depth: u32,
 ) -> Result<SizedElse, ReadError>
 where
-    F: Fn(Ask, &mut Place<'a>) -> Result<Answer, ReadError>,
+    F: Fn(Ask, &mut Cursor<'a>) -> Result<Answer, ReadError>,
     requires { Lends F.Fn lent.now depth }
-    ensures { ReadsElse place.old place.new result (stating.some_else_with (knot depth) room) }
+    ensures { ReadsElse cursor.old cursor.new result (stating.some_else_with (knot depth) room) }
 {
-    if !is_else(kind_at(place.rest)) {
+    if !is_else(kind_at(cursor.rest)) {
         return Ok(no_else());
     }
-    let keyword = take_one(place)?;
-    let body = part(lent, room, place, depth)?;
+    let keyword = take_one(cursor)?;
+    let body = part(lent, room, cursor, depth)?;
     Ok(some_else(keyword, body))
 }
 
@@ -59,22 +59,22 @@ where
 fn if_inside<'a, F>(
     lent: &F,
     room: u16,
-    place: &mut Place<'a>,
+    cursor: &mut Cursor<'a>,
     depth: u32,
 ) -> Result<SizedStmt, ReadError>
 where
-    F: Fn(Ask, &mut Place<'a>) -> Result<Answer, ReadError>,
+    F: Fn(Ask, &mut Cursor<'a>) -> Result<Answer, ReadError>,
     requires { Lends F.Fn lent.now depth }
-    ensures { ReadsStmt place.old place.new result (stating.if_inside (knot depth) room) }
+    ensures { ReadsStmt cursor.old cursor.new result (stating.if_inside (knot depth) room) }
 {
     let below = room.saturating_sub(1);
-    let keyword = take_one(place)?;
-    let opening = open_paren(place)?;
-    let value = expr_inside(lent, Reach::Whole, Begun::Nothing, below, place, depth)?;
-    let closing = close_paren(place)?;
-    let body = part(lent, below, place, depth)?;
-    let other = other_branch(lent, below, place, depth)?;
-    let made = decl_nodes::if_stmt(place.alloc, keyword, opening, value, closing, body, other)?;
+    let keyword = take_one(cursor)?;
+    let opening = open_paren(cursor)?;
+    let value = expr_inside(lent, Reach::Whole, Begun::Nothing, below, cursor, depth)?;
+    let closing = close_paren(cursor)?;
+    let body = part(lent, below, cursor, depth)?;
+    let other = other_branch(lent, below, cursor, depth)?;
+    let made = decl_nodes::if_stmt(cursor.alloc, keyword, opening, value, closing, body, other)?;
     Ok(made)
 }
 
@@ -83,22 +83,22 @@ where
 fn switch_inside<'a, F>(
     lent: &F,
     room: u16,
-    place: &mut Place<'a>,
+    cursor: &mut Cursor<'a>,
     depth: u32,
 ) -> Result<SizedStmt, ReadError>
 where
-    F: Fn(Ask, &mut Place<'a>) -> Result<Answer, ReadError>,
+    F: Fn(Ask, &mut Cursor<'a>) -> Result<Answer, ReadError>,
     requires { Lends F.Fn lent.now depth }
-    ensures { ReadsStmt place.old place.new result
+    ensures { ReadsStmt cursor.old cursor.new result
         (stating.headed_inside (knot depth) trees.switch_stmt room) }
 {
     let below = room.saturating_sub(1);
-    let keyword = take_one(place)?;
-    let opening = open_paren(place)?;
-    let value = expr_inside(lent, Reach::Whole, Begun::Nothing, below, place, depth)?;
-    let closing = close_paren(place)?;
-    let body = part(lent, below, place, depth)?;
-    let made = decl_nodes::switch_stmt(place.alloc, keyword, opening, value, closing, body)?;
+    let keyword = take_one(cursor)?;
+    let opening = open_paren(cursor)?;
+    let value = expr_inside(lent, Reach::Whole, Begun::Nothing, below, cursor, depth)?;
+    let closing = close_paren(cursor)?;
+    let body = part(lent, below, cursor, depth)?;
+    let made = decl_nodes::switch_stmt(cursor.alloc, keyword, opening, value, closing, body)?;
     Ok(made)
 }
 
@@ -107,22 +107,22 @@ where
 fn while_inside<'a, F>(
     lent: &F,
     room: u16,
-    place: &mut Place<'a>,
+    cursor: &mut Cursor<'a>,
     depth: u32,
 ) -> Result<SizedStmt, ReadError>
 where
-    F: Fn(Ask, &mut Place<'a>) -> Result<Answer, ReadError>,
+    F: Fn(Ask, &mut Cursor<'a>) -> Result<Answer, ReadError>,
     requires { Lends F.Fn lent.now depth }
-    ensures { ReadsStmt place.old place.new result
+    ensures { ReadsStmt cursor.old cursor.new result
         (stating.headed_inside (knot depth) trees.while_stmt room) }
 {
     let below = room.saturating_sub(1);
-    let keyword = take_one(place)?;
-    let opening = open_paren(place)?;
-    let value = expr_inside(lent, Reach::Whole, Begun::Nothing, below, place, depth)?;
-    let closing = close_paren(place)?;
-    let body = part(lent, below, place, depth)?;
-    let made = decl_nodes::while_stmt(place.alloc, keyword, opening, value, closing, body)?;
+    let keyword = take_one(cursor)?;
+    let opening = open_paren(cursor)?;
+    let value = expr_inside(lent, Reach::Whole, Begun::Nothing, below, cursor, depth)?;
+    let closing = close_paren(cursor)?;
+    let body = part(lent, below, cursor, depth)?;
+    let made = decl_nodes::while_stmt(cursor.alloc, keyword, opening, value, closing, body)?;
     Ok(made)
 }
 
@@ -131,24 +131,24 @@ where
 fn do_inside<'a, F>(
     lent: &F,
     room: u16,
-    place: &mut Place<'a>,
+    cursor: &mut Cursor<'a>,
     depth: u32,
 ) -> Result<SizedStmt, ReadError>
 where
-    F: Fn(Ask, &mut Place<'a>) -> Result<Answer, ReadError>,
+    F: Fn(Ask, &mut Cursor<'a>) -> Result<Answer, ReadError>,
     requires { Lends F.Fn lent.now depth }
-    ensures { ReadsStmt place.old place.new result (stating.do_inside (knot depth) room) }
+    ensures { ReadsStmt cursor.old cursor.new result (stating.do_inside (knot depth) room) }
 {
     let below = room.saturating_sub(1);
-    let keyword = take_one(place)?;
-    let body = part(lent, below, place, depth)?;
-    let again = while_word(place)?;
-    let opening = open_paren(place)?;
-    let value = expr_inside(lent, Reach::Whole, Begun::Nothing, below, place, depth)?;
-    let closing = close_paren(place)?;
-    let semi = semicolon(place)?;
+    let keyword = take_one(cursor)?;
+    let body = part(lent, below, cursor, depth)?;
+    let again = while_word(cursor)?;
+    let opening = open_paren(cursor)?;
+    let value = expr_inside(lent, Reach::Whole, Begun::Nothing, below, cursor, depth)?;
+    let closing = close_paren(cursor)?;
+    let semi = semicolon(cursor)?;
     let made = decl_nodes::do_stmt(
-        place.alloc,
+        cursor.alloc,
         keyword,
         body,
         again,
@@ -165,18 +165,18 @@ where
 pub(crate) fn if_stmt<'a, F>(
     lent: &F,
     room: u16,
-    place: &mut Place<'a>,
+    cursor: &mut Cursor<'a>,
     depth: u32,
 ) -> Result<SizedStmt, ReadError>
 where
-    F: Fn(Ask, &mut Place<'a>) -> Result<Answer, ReadError>,
+    F: Fn(Ask, &mut Cursor<'a>) -> Result<Answer, ReadError>,
     requires { Lends F.Fn lent.now depth }
-    ensures { ReadsStmt place.old place.new result (if_with depth room) }
+    ensures { ReadsStmt cursor.old cursor.new result (if_with depth room) }
 {
-    room_for(2, room, place)?;
-    place.scopes.enter()?;
-    let made = if_inside(lent, room, place, depth)?;
-    place.scopes.leave();
+    room_for(2, room, cursor)?;
+    cursor.scopes.enter()?;
+    let made = if_inside(lent, room, cursor, depth)?;
+    cursor.scopes.leave();
     Ok(made)
 }
 
@@ -185,18 +185,18 @@ where
 pub(crate) fn switch_stmt<'a, F>(
     lent: &F,
     room: u16,
-    place: &mut Place<'a>,
+    cursor: &mut Cursor<'a>,
     depth: u32,
 ) -> Result<SizedStmt, ReadError>
 where
-    F: Fn(Ask, &mut Place<'a>) -> Result<Answer, ReadError>,
+    F: Fn(Ask, &mut Cursor<'a>) -> Result<Answer, ReadError>,
     requires { Lends F.Fn lent.now depth }
-    ensures { ReadsStmt place.old place.new result (switch_with depth room) }
+    ensures { ReadsStmt cursor.old cursor.new result (switch_with depth room) }
 {
-    room_for(2, room, place)?;
-    place.scopes.enter()?;
-    let made = switch_inside(lent, room, place, depth)?;
-    place.scopes.leave();
+    room_for(2, room, cursor)?;
+    cursor.scopes.enter()?;
+    let made = switch_inside(lent, room, cursor, depth)?;
+    cursor.scopes.leave();
     Ok(made)
 }
 
@@ -205,18 +205,18 @@ where
 pub(crate) fn while_stmt<'a, F>(
     lent: &F,
     room: u16,
-    place: &mut Place<'a>,
+    cursor: &mut Cursor<'a>,
     depth: u32,
 ) -> Result<SizedStmt, ReadError>
 where
-    F: Fn(Ask, &mut Place<'a>) -> Result<Answer, ReadError>,
+    F: Fn(Ask, &mut Cursor<'a>) -> Result<Answer, ReadError>,
     requires { Lends F.Fn lent.now depth }
-    ensures { ReadsStmt place.old place.new result (while_with depth room) }
+    ensures { ReadsStmt cursor.old cursor.new result (while_with depth room) }
 {
-    room_for(2, room, place)?;
-    place.scopes.enter()?;
-    let made = while_inside(lent, room, place, depth)?;
-    place.scopes.leave();
+    room_for(2, room, cursor)?;
+    cursor.scopes.enter()?;
+    let made = while_inside(lent, room, cursor, depth)?;
+    cursor.scopes.leave();
     Ok(made)
 }
 
@@ -225,17 +225,17 @@ where
 pub(crate) fn do_stmt<'a, F>(
     lent: &F,
     room: u16,
-    place: &mut Place<'a>,
+    cursor: &mut Cursor<'a>,
     depth: u32,
 ) -> Result<SizedStmt, ReadError>
 where
-    F: Fn(Ask, &mut Place<'a>) -> Result<Answer, ReadError>,
+    F: Fn(Ask, &mut Cursor<'a>) -> Result<Answer, ReadError>,
     requires { Lends F.Fn lent.now depth }
-    ensures { ReadsStmt place.old place.new result (do_with depth room) }
+    ensures { ReadsStmt cursor.old cursor.new result (do_with depth room) }
 {
-    room_for(2, room, place)?;
-    place.scopes.enter()?;
-    let made = do_inside(lent, room, place, depth)?;
-    place.scopes.leave();
+    room_for(2, room, cursor)?;
+    cursor.scopes.enter()?;
+    let made = do_inside(lent, room, cursor, depth)?;
+    cursor.scopes.leave();
     Ok(made)
 }

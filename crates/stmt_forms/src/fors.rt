@@ -12,7 +12,7 @@ use c_reading::Reach;
 use decl_forms::declaration;
 use decl_nodes::{start_declaration, start_value};
 use reader_base::{
-    Answer, Ask, Begun, Place, ReadError, begins_specs, close_paren, expr_inside, extensions,
+    Answer, Ask, Begun, Cursor, ReadError, begins_specs, close_paren, expr_inside, extensions,
     is_extension, is_semicolon, kind_at, open_paren, room_for, semicolon, take_one,
 };
 
@@ -22,17 +22,17 @@ fn start_expr<'a, F>(
     lent: &F,
     begun: Begun,
     room: u16,
-    place: &mut Place<'a>,
+    cursor: &mut Cursor<'a>,
     depth: u32,
 ) -> Result<SizedStart, ReadError>
 where
-    F: Fn(Ask, &mut Place<'a>) -> Result<Answer, ReadError>,
+    F: Fn(Ask, &mut Cursor<'a>) -> Result<Answer, ReadError>,
     requires { Lends F.Fn lent.now depth }
-    ensures { ReadsStart place.old place.new result
+    ensures { ReadsStart cursor.old cursor.new result
         (stating.start_value_with (knot depth) (begun_of begun) room) }
 {
-    let value = expr_inside(lent, Reach::Whole, begun, room, place, depth)?;
-    let semi = semicolon(place)?;
+    let value = expr_inside(lent, Reach::Whole, begun, room, cursor, depth)?;
+    let semi = semicolon(cursor)?;
     Ok(start_value(some_expr(value), semi))
 }
 
@@ -41,20 +41,20 @@ where
 fn extended_start<'a, F>(
     lent: &F,
     room: u16,
-    place: &mut Place<'a>,
+    cursor: &mut Cursor<'a>,
     depth: u32,
 ) -> Result<SizedStart, ReadError>
 where
-    F: Fn(Ask, &mut Place<'a>) -> Result<Answer, ReadError>,
+    F: Fn(Ask, &mut Cursor<'a>) -> Result<Answer, ReadError>,
     requires { Lends F.Fn lent.now depth }
-    ensures { ReadsStart place.old place.new result (stating.extended_start (knot depth) room) }
+    ensures { ReadsStart cursor.old cursor.new result (stating.extended_start (knot depth) room) }
 {
-    let exts = extensions(room, place)?;
-    if begins_specs(&place.scopes, kind_at(place.rest)) {
-        let found = declaration(lent, exts, room, place, depth)?;
+    let exts = extensions(room, cursor)?;
+    if begins_specs(&cursor.scopes, kind_at(cursor.rest)) {
+        let found = declaration(lent, exts, room, cursor, depth)?;
         return Ok(start_declaration(found));
     }
-    start_expr(lent, Begun::Extensions(exts), room, place, depth)
+    start_expr(lent, Begun::Extensions(exts), room, cursor, depth)
 }
 
 /// How a `for` begins, to the first `;`.
@@ -62,26 +62,26 @@ where
 fn for_start<'a, F>(
     lent: &F,
     room: u16,
-    place: &mut Place<'a>,
+    cursor: &mut Cursor<'a>,
     depth: u32,
 ) -> Result<SizedStart, ReadError>
 where
-    F: Fn(Ask, &mut Place<'a>) -> Result<Answer, ReadError>,
+    F: Fn(Ask, &mut Cursor<'a>) -> Result<Answer, ReadError>,
     requires { Lends F.Fn lent.now depth }
-    ensures { ReadsStart place.old place.new result (stating.for_start_with (knot depth) room) }
+    ensures { ReadsStart cursor.old cursor.new result (stating.for_start_with (knot depth) room) }
 {
-    if is_semicolon(kind_at(place.rest)) {
-        let semi = take_one(place)?;
+    if is_semicolon(kind_at(cursor.rest)) {
+        let semi = take_one(cursor)?;
         return Ok(start_value(no_expr(), semi));
     }
-    if is_extension(kind_at(place.rest)) {
-        return extended_start(lent, room, place, depth);
+    if is_extension(kind_at(cursor.rest)) {
+        return extended_start(lent, room, cursor, depth);
     }
-    if begins_specs(&place.scopes, kind_at(place.rest)) {
-        let found = declaration(lent, Vec::new(place.alloc), room, place, depth)?;
+    if begins_specs(&cursor.scopes, kind_at(cursor.rest)) {
+        let found = declaration(lent, Vec::new(cursor.alloc), room, cursor, depth)?;
         return Ok(start_declaration(found));
     }
-    start_expr(lent, Begun::Nothing, room, place, depth)
+    start_expr(lent, Begun::Nothing, room, cursor, depth)
 }
 
 /// `for ( (Declaration | [expr] ;) [expr] ; [expr] ) stmt` in a scope that is open.
@@ -89,25 +89,25 @@ where
 fn for_inside<'a, F>(
     lent: &F,
     room: u16,
-    place: &mut Place<'a>,
+    cursor: &mut Cursor<'a>,
     depth: u32,
 ) -> Result<SizedStmt, ReadError>
 where
-    F: Fn(Ask, &mut Place<'a>) -> Result<Answer, ReadError>,
+    F: Fn(Ask, &mut Cursor<'a>) -> Result<Answer, ReadError>,
     requires { Lends F.Fn lent.now depth }
-    ensures { ReadsStmt place.old place.new result (stating.for_inside (knot depth) room) }
+    ensures { ReadsStmt cursor.old cursor.new result (stating.for_inside (knot depth) room) }
 {
     let below = room.saturating_sub(1);
-    let keyword = take_one(place)?;
-    let opening = open_paren(place)?;
-    let start = for_start(lent, below, place, depth)?;
-    let condition = value_before_semi(lent, below, place, depth)?;
-    let semi = semicolon(place)?;
-    let step = value_before_paren(lent, below, place, depth)?;
-    let closing = close_paren(place)?;
-    let body = part(lent, below, place, depth)?;
+    let keyword = take_one(cursor)?;
+    let opening = open_paren(cursor)?;
+    let start = for_start(lent, below, cursor, depth)?;
+    let condition = value_before_semi(lent, below, cursor, depth)?;
+    let semi = semicolon(cursor)?;
+    let step = value_before_paren(lent, below, cursor, depth)?;
+    let closing = close_paren(cursor)?;
+    let body = part(lent, below, cursor, depth)?;
     let made = decl_nodes::for_stmt(
-        place.alloc,
+        cursor.alloc,
         keyword,
         opening,
         start,
@@ -125,17 +125,17 @@ where
 pub(crate) fn for_stmt<'a, F>(
     lent: &F,
     room: u16,
-    place: &mut Place<'a>,
+    cursor: &mut Cursor<'a>,
     depth: u32,
 ) -> Result<SizedStmt, ReadError>
 where
-    F: Fn(Ask, &mut Place<'a>) -> Result<Answer, ReadError>,
+    F: Fn(Ask, &mut Cursor<'a>) -> Result<Answer, ReadError>,
     requires { Lends F.Fn lent.now depth }
-    ensures { ReadsStmt place.old place.new result (for_with depth room) }
+    ensures { ReadsStmt cursor.old cursor.new result (for_with depth room) }
 {
-    room_for(2, room, place)?;
-    place.scopes.enter()?;
-    let made = for_inside(lent, room, place, depth)?;
-    place.scopes.leave();
+    room_for(2, room, cursor)?;
+    cursor.scopes.enter()?;
+    let made = for_inside(lent, room, cursor, depth)?;
+    cursor.scopes.leave();
     Ok(made)
 }

@@ -12,13 +12,13 @@ ghost use Rattle.stmt_forms.specs.InBlocks.{typed_item_with, unnamed_item_with};
 use crate::jumps::expr_stmt;
 use crate::labelled::label;
 use c_nodes::{SizedBlockItem, SizedSpecs};
-use c_reading::Fault;
+use c_reading::FaultKind;
 use c_syntax::Attr;
 use decl_forms::{declaration, declaration_from};
 use decl_nodes::{block_stmt, typedef_name};
 use qual_base::{NameId, NoMemory, TokenId};
 use reader_base::{
-    Answer, Ask, Begun, Place, ReadError, attrs, begins_specs, behind_first, extensions,
+    Answer, Ask, Begun, Cursor, ReadError, attrs, begins_specs, behind_first, extensions,
     is_attribute, is_colon, is_extension, is_semicolon, is_static_assert, kind_at, refused,
     room_for, spelled_name, static_assert, stmt_inside, take_one,
 };
@@ -43,12 +43,12 @@ fn typedef_words(alloc: Global, token: TokenId, name: NameId) -> Result<SizedSpe
 
 /// `_Static_assert bal ;`, where it stands first.
 #[tactic(auto, unfolding(c_reading::specs::Reading::fits, c_reading::specs::Reading::and_then))]
-fn assert_item(room: u16, place: &mut Place) -> Result<SizedBlockItem, ReadError>
-    ensures { ReadsItem place.old place.new result (assert_item_with room) }
+fn assert_item(room: u16, cursor: &mut Cursor) -> Result<SizedBlockItem, ReadError>
+    ensures { ReadsItem cursor.old cursor.new result (assert_item_with room) }
 {
-    room_for(1, room, place)?;
-    let found = static_assert(place)?;
-    let made = decl_nodes::block_assert(place.alloc, found)?;
+    room_for(1, room, cursor)?;
+    let found = static_assert(cursor)?;
+    let made = decl_nodes::block_assert(cursor.alloc, found)?;
     Ok(made)
 }
 
@@ -58,16 +58,16 @@ fn declaration_item<'a, F>(
     lent: &F,
     exts: Vec<TokenId>,
     room: u16,
-    place: &mut Place<'a>,
+    cursor: &mut Cursor<'a>,
     depth: u32,
 ) -> Result<SizedBlockItem, ReadError>
 where
-    F: Fn(Ask, &mut Place<'a>) -> Result<Answer, ReadError>,
+    F: Fn(Ask, &mut Cursor<'a>) -> Result<Answer, ReadError>,
     requires { Lends F.Fn lent.now depth }
-    ensures { ReadsItem place.old place.new result (declaration_item_with depth exts.items room) }
+    ensures { ReadsItem cursor.old cursor.new result (declaration_item_with depth exts.items room) }
 {
-    let found = declaration(lent, exts, room, place, depth)?;
-    let made = decl_nodes::block_declaration(place.alloc, found)?;
+    let found = declaration(lent, exts, room, cursor, depth)?;
+    let made = decl_nodes::block_declaration(cursor.alloc, found)?;
     Ok(made)
 }
 
@@ -77,16 +77,17 @@ fn item_from<'a, F>(
     lent: &F,
     known: SizedSpecs,
     room: u16,
-    place: &mut Place<'a>,
+    cursor: &mut Cursor<'a>,
     depth: u32,
 ) -> Result<SizedBlockItem, ReadError>
 where
-    F: Fn(Ask, &mut Place<'a>) -> Result<Answer, ReadError>,
+    F: Fn(Ask, &mut Cursor<'a>) -> Result<Answer, ReadError>,
     requires { Lends F.Fn lent.now depth }
-    ensures { ReadsItem place.old place.new result (item_from_with depth (sized_specs known) room) }
+    ensures { ReadsItem cursor.old cursor.new result
+        (item_from_with depth (sized_specs known) room) }
 {
-    let found = declaration_from(lent, known, room, place, depth)?;
-    let made = decl_nodes::block_declaration(place.alloc, found)?;
+    let found = declaration_from(lent, known, room, cursor, depth)?;
+    let made = decl_nodes::block_declaration(cursor.alloc, found)?;
     Ok(made)
 }
 
@@ -96,17 +97,17 @@ fn typed_item<'a, F>(
     lent: &F,
     name: NameId,
     room: u16,
-    place: &mut Place<'a>,
+    cursor: &mut Cursor<'a>,
     depth: u32,
 ) -> Result<SizedBlockItem, ReadError>
 where
-    F: Fn(Ask, &mut Place<'a>) -> Result<Answer, ReadError>,
+    F: Fn(Ask, &mut Cursor<'a>) -> Result<Answer, ReadError>,
     requires { Lends F.Fn lent.now depth }
-    ensures { ReadsItem place.old place.new result (typed_item_with depth name room) }
+    ensures { ReadsItem cursor.old cursor.new result (typed_item_with depth name room) }
 {
-    let token = take_one(place)?;
-    let words = typedef_words(place.alloc, token, name)?;
-    item_from(lent, words, room, place, depth)
+    let token = take_one(cursor)?;
+    let words = typedef_words(cursor.alloc, token, name)?;
+    item_from(lent, words, room, cursor, depth)
 }
 
 /// A label, a declaration or an expression, by the token behind the name and by its kind.
@@ -115,23 +116,23 @@ fn named_item<'a, F>(
     lent: &F,
     name: NameId,
     room: u16,
-    place: &mut Place<'a>,
+    cursor: &mut Cursor<'a>,
     depth: u32,
 ) -> Result<SizedBlockItem, ReadError>
 where
-    F: Fn(Ask, &mut Place<'a>) -> Result<Answer, ReadError>,
+    F: Fn(Ask, &mut Cursor<'a>) -> Result<Answer, ReadError>,
     requires { Lends F.Fn lent.now depth }
-    ensures { ReadsItem place.old place.new result (stating.named_item (knot depth) name room) }
+    ensures { ReadsItem cursor.old cursor.new result (stating.named_item (knot depth) name room) }
 {
-    room_for(2, room, place)?;
-    if is_colon(kind_at(behind_first(place.rest))) {
-        let found = label(lent, room, place, depth)?;
+    room_for(2, room, cursor)?;
+    if is_colon(kind_at(behind_first(cursor.rest))) {
+        let found = label(lent, room, cursor, depth)?;
         return Ok(block_stmt(found));
     }
-    if place.scopes.names_type(name) {
-        return typed_item(lent, name, room, place, depth);
+    if cursor.scopes.names_type(name) {
+        return typed_item(lent, name, room, cursor, depth);
     }
-    let found = expr_stmt(lent, Begun::Nothing, room, place, depth)?;
+    let found = expr_stmt(lent, Begun::Nothing, room, cursor, depth)?;
     Ok(block_stmt(found))
 }
 
@@ -140,19 +141,19 @@ where
 fn extended_item<'a, F>(
     lent: &F,
     room: u16,
-    place: &mut Place<'a>,
+    cursor: &mut Cursor<'a>,
     depth: u32,
 ) -> Result<SizedBlockItem, ReadError>
 where
-    F: Fn(Ask, &mut Place<'a>) -> Result<Answer, ReadError>,
+    F: Fn(Ask, &mut Cursor<'a>) -> Result<Answer, ReadError>,
     requires { Lends F.Fn lent.now depth }
-    ensures { ReadsItem place.old place.new result (stating.extended_item (knot depth) room) }
+    ensures { ReadsItem cursor.old cursor.new result (stating.extended_item (knot depth) room) }
 {
-    let exts = extensions(room, place)?;
-    if begins_specs(&place.scopes, kind_at(place.rest)) {
-        return declaration_item(lent, exts, room, place, depth);
+    let exts = extensions(room, cursor)?;
+    if begins_specs(&cursor.scopes, kind_at(cursor.rest)) {
+        return declaration_item(lent, exts, room, cursor, depth);
     }
-    let found = expr_stmt(lent, Begun::Extensions(exts), room, place, depth)?;
+    let found = expr_stmt(lent, Begun::Extensions(exts), room, cursor, depth)?;
     Ok(block_stmt(found))
 }
 
@@ -162,25 +163,25 @@ fn attr_item_by<'a, F>(
     lent: &F,
     attrs: Vec<Attr>,
     room: u16,
-    place: &mut Place<'a>,
+    cursor: &mut Cursor<'a>,
     depth: u32,
 ) -> Result<SizedBlockItem, ReadError>
 where
-    F: Fn(Ask, &mut Place<'a>) -> Result<Answer, ReadError>,
+    F: Fn(Ask, &mut Cursor<'a>) -> Result<Answer, ReadError>,
     requires { Lends F.Fn lent.now depth }
-    ensures { ReadsItem place.old place.new result
+    ensures { ReadsItem cursor.old cursor.new result
         (stating.attr_item_by (knot depth) attrs.items room) }
 {
-    if is_semicolon(kind_at(place.rest)) {
-        let semi = take_one(place)?;
-        let made = decl_nodes::attr_stmt(place.alloc, attrs, semi)?;
+    if is_semicolon(kind_at(cursor.rest)) {
+        let semi = take_one(cursor)?;
+        let made = decl_nodes::attr_stmt(cursor.alloc, attrs, semi)?;
         return Ok(block_stmt(made));
     }
-    if begins_specs(&place.scopes, kind_at(place.rest)) {
-        let words = attr_words(place.alloc, attrs.as_slice())?;
-        return item_from(lent, words, room, place, depth);
+    if begins_specs(&cursor.scopes, kind_at(cursor.rest)) {
+        let words = attr_words(cursor.alloc, attrs.as_slice())?;
+        return item_from(lent, words, room, cursor, depth);
     }
-    Err(refused(Fault::Unexpected, place.rest))
+    Err(refused(FaultKind::Unexpected, cursor.rest))
 }
 
 /// What begins with attributes in a block.
@@ -188,16 +189,16 @@ where
 fn attr_item<'a, F>(
     lent: &F,
     room: u16,
-    place: &mut Place<'a>,
+    cursor: &mut Cursor<'a>,
     depth: u32,
 ) -> Result<SizedBlockItem, ReadError>
 where
-    F: Fn(Ask, &mut Place<'a>) -> Result<Answer, ReadError>,
+    F: Fn(Ask, &mut Cursor<'a>) -> Result<Answer, ReadError>,
     requires { Lends F.Fn lent.now depth }
-    ensures { ReadsItem place.old place.new result (stating.attr_item (knot depth) room) }
+    ensures { ReadsItem cursor.old cursor.new result (stating.attr_item (knot depth) room) }
 {
-    let attrs = attrs(room, place)?;
-    attr_item_by(lent, attrs, room, place, depth)
+    let attrs = attrs(room, cursor)?;
+    attr_item_by(lent, attrs, room, cursor, depth)
 }
 
 /// A declaration or a statement, by its first token, which is no name.
@@ -205,18 +206,18 @@ where
 fn unnamed_item<'a, F>(
     lent: &F,
     room: u16,
-    place: &mut Place<'a>,
+    cursor: &mut Cursor<'a>,
     depth: u32,
 ) -> Result<SizedBlockItem, ReadError>
 where
-    F: Fn(Ask, &mut Place<'a>) -> Result<Answer, ReadError>,
+    F: Fn(Ask, &mut Cursor<'a>) -> Result<Answer, ReadError>,
     requires { Lends F.Fn lent.now depth }
-    ensures { ReadsItem place.old place.new result (unnamed_item_with depth room) }
+    ensures { ReadsItem cursor.old cursor.new result (unnamed_item_with depth room) }
 {
-    if begins_specs(&place.scopes, kind_at(place.rest)) {
-        return declaration_item(lent, Vec::new(place.alloc), room, place, depth);
+    if begins_specs(&cursor.scopes, kind_at(cursor.rest)) {
+        return declaration_item(lent, Vec::new(cursor.alloc), room, cursor, depth);
     }
-    let found = stmt_inside(lent, room, place, depth)?;
+    let found = stmt_inside(lent, room, cursor, depth)?;
     Ok(block_stmt(found))
 }
 
@@ -225,25 +226,25 @@ where
 pub(crate) fn block_item<'a, F>(
     lent: &F,
     room: u16,
-    place: &mut Place<'a>,
+    cursor: &mut Cursor<'a>,
     depth: u32,
 ) -> Result<SizedBlockItem, ReadError>
 where
-    F: Fn(Ask, &mut Place<'a>) -> Result<Answer, ReadError>,
+    F: Fn(Ask, &mut Cursor<'a>) -> Result<Answer, ReadError>,
     requires { Lends F.Fn lent.now depth }
-    ensures { ReadsItem place.old place.new result (stating.block_item_with (knot depth) room) }
+    ensures { ReadsItem cursor.old cursor.new result (stating.block_item_with (knot depth) room) }
 {
-    if is_static_assert(kind_at(place.rest)) {
-        return assert_item(room, place);
+    if is_static_assert(kind_at(cursor.rest)) {
+        return assert_item(room, cursor);
     }
-    if is_extension(kind_at(place.rest)) {
-        return extended_item(lent, room, place, depth);
+    if is_extension(kind_at(cursor.rest)) {
+        return extended_item(lent, room, cursor, depth);
     }
-    if is_attribute(kind_at(place.rest)) {
-        return attr_item(lent, room, place, depth);
+    if is_attribute(kind_at(cursor.rest)) {
+        return attr_item(lent, room, cursor, depth);
     }
-    match spelled_name(kind_at(place.rest)) {
-        Some(name) => named_item(lent, name, room, place, depth),
-        None => unnamed_item(lent, room, place, depth),
+    match spelled_name(kind_at(cursor.rest)) {
+        Some(name) => named_item(lent, name, room, cursor, depth),
+        None => unnamed_item(lent, room, cursor, depth),
     }
 }

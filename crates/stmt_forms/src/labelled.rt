@@ -9,7 +9,7 @@ use c_nodes::{SizedExpr, SizedStmt};
 use c_reading::Reach;
 use qual_base::TokenId;
 use reader_base::{
-    Answer, Ask, Begun, Place, ReadError, attrs, colon, expr_inside, is_dots, kind_at, name,
+    Answer, Ask, Begun, Cursor, ReadError, attrs, colon, expr_inside, is_dots, kind_at, name,
     room_for, stmt_inside, take_one,
 };
 
@@ -18,19 +18,19 @@ use reader_base::{
 pub(crate) fn label<'a, F>(
     lent: &F,
     room: u16,
-    place: &mut Place<'a>,
+    cursor: &mut Cursor<'a>,
     depth: u32,
 ) -> Result<SizedStmt, ReadError>
 where
-    F: Fn(Ask, &mut Place<'a>) -> Result<Answer, ReadError>,
+    F: Fn(Ask, &mut Cursor<'a>) -> Result<Answer, ReadError>,
     requires { Lends F.Fn lent.now depth }
-    ensures { ReadsStmt place.old place.new result (stating.label_with (knot depth) room) }
+    ensures { ReadsStmt cursor.old cursor.new result (stating.label_with (knot depth) room) }
 {
-    let name = name(place)?;
-    let colon = colon(place)?;
-    let attrs = attrs(room, place)?;
-    let body = stmt_inside(lent, room.saturating_sub(1), place, depth)?;
-    let made = decl_nodes::label(place.alloc, name, colon, attrs, body)?;
+    let name = name(cursor)?;
+    let colon = colon(cursor)?;
+    let attrs = attrs(room, cursor)?;
+    let body = stmt_inside(lent, room.saturating_sub(1), cursor, depth)?;
+    let made = decl_nodes::label(cursor.alloc, name, colon, attrs, body)?;
     Ok(made)
 }
 
@@ -41,28 +41,28 @@ fn range_behind<'a, F>(
     keyword: TokenId,
     first: SizedExpr,
     room: u16,
-    place: &mut Place<'a>,
+    cursor: &mut Cursor<'a>,
     depth: u32,
 ) -> Result<SizedStmt, ReadError>
 where
-    F: Fn(Ask, &mut Place<'a>) -> Result<Answer, ReadError>,
+    F: Fn(Ask, &mut Cursor<'a>) -> Result<Answer, ReadError>,
     requires { Lends F.Fn lent.now depth }
-    ensures { ReadsStmt place.old place.new result
+    ensures { ReadsStmt cursor.old cursor.new result
         (stating.range_behind (knot depth) keyword (expr first) room) }
 {
     let below = room.saturating_sub(1);
-    let dots = take_one(place)?;
+    let dots = take_one(cursor)?;
     let last = expr_inside(
         lent,
         Reach::Conditional,
         Begun::Nothing,
         below,
-        place,
+        cursor,
         depth,
     )?;
-    let colon = colon(place)?;
-    let body = stmt_inside(lent, below, place, depth)?;
-    let made = decl_nodes::case_range(place.alloc, keyword, first, dots, last, colon, body)?;
+    let colon = colon(cursor)?;
+    let body = stmt_inside(lent, below, cursor, depth)?;
+    let made = decl_nodes::case_range(cursor.alloc, keyword, first, dots, last, colon, body)?;
     Ok(made)
 }
 
@@ -73,18 +73,18 @@ fn value_behind<'a, F>(
     keyword: TokenId,
     value: SizedExpr,
     room: u16,
-    place: &mut Place<'a>,
+    cursor: &mut Cursor<'a>,
     depth: u32,
 ) -> Result<SizedStmt, ReadError>
 where
-    F: Fn(Ask, &mut Place<'a>) -> Result<Answer, ReadError>,
+    F: Fn(Ask, &mut Cursor<'a>) -> Result<Answer, ReadError>,
     requires { Lends F.Fn lent.now depth }
-    ensures { ReadsStmt place.old place.new result
+    ensures { ReadsStmt cursor.old cursor.new result
         (stating.value_behind (knot depth) keyword (expr value) room) }
 {
-    let colon = colon(place)?;
-    let body = stmt_inside(lent, room.saturating_sub(1), place, depth)?;
-    let made = decl_nodes::case_stmt(place.alloc, keyword, value, colon, body)?;
+    let colon = colon(cursor)?;
+    let body = stmt_inside(lent, room.saturating_sub(1), cursor, depth)?;
+    let made = decl_nodes::case_stmt(cursor.alloc, keyword, value, colon, body)?;
     Ok(made)
 }
 
@@ -93,29 +93,29 @@ where
 pub(crate) fn case_stmt<'a, F>(
     lent: &F,
     room: u16,
-    place: &mut Place<'a>,
+    cursor: &mut Cursor<'a>,
     depth: u32,
 ) -> Result<SizedStmt, ReadError>
 where
-    F: Fn(Ask, &mut Place<'a>) -> Result<Answer, ReadError>,
+    F: Fn(Ask, &mut Cursor<'a>) -> Result<Answer, ReadError>,
     requires { Lends F.Fn lent.now depth }
-    ensures { ReadsStmt place.old place.new result (stating.case_with (knot depth) room) }
+    ensures { ReadsStmt cursor.old cursor.new result (stating.case_with (knot depth) room) }
 {
-    room_for(2, room, place)?;
+    room_for(2, room, cursor)?;
     let below = room.saturating_sub(1);
-    let keyword = take_one(place)?;
+    let keyword = take_one(cursor)?;
     let value = expr_inside(
         lent,
         Reach::Conditional,
         Begun::Nothing,
         below,
-        place,
+        cursor,
         depth,
     )?;
-    if place.scopes.is_wide() && is_dots(kind_at(place.rest)) {
-        return range_behind(lent, keyword, value, room, place, depth);
+    if cursor.scopes.is_wide() && is_dots(kind_at(cursor.rest)) {
+        return range_behind(lent, keyword, value, room, cursor, depth);
     }
-    value_behind(lent, keyword, value, room, place, depth)
+    value_behind(lent, keyword, value, room, cursor, depth)
 }
 
 /// `default : stmt`.
@@ -123,18 +123,18 @@ where
 pub(crate) fn default_stmt<'a, F>(
     lent: &F,
     room: u16,
-    place: &mut Place<'a>,
+    cursor: &mut Cursor<'a>,
     depth: u32,
 ) -> Result<SizedStmt, ReadError>
 where
-    F: Fn(Ask, &mut Place<'a>) -> Result<Answer, ReadError>,
+    F: Fn(Ask, &mut Cursor<'a>) -> Result<Answer, ReadError>,
     requires { Lends F.Fn lent.now depth }
-    ensures { ReadsStmt place.old place.new result (stating.default_with (knot depth) room) }
+    ensures { ReadsStmt cursor.old cursor.new result (stating.default_with (knot depth) room) }
 {
-    room_for(2, room, place)?;
-    let keyword = take_one(place)?;
-    let colon = colon(place)?;
-    let body = stmt_inside(lent, room.saturating_sub(1), place, depth)?;
-    let made = decl_nodes::default_stmt(place.alloc, keyword, colon, body)?;
+    room_for(2, room, cursor)?;
+    let keyword = take_one(cursor)?;
+    let colon = colon(cursor)?;
+    let body = stmt_inside(lent, room.saturating_sub(1), cursor, depth)?;
+    let made = decl_nodes::default_stmt(cursor.alloc, keyword, colon, body)?;
     Ok(made)
 }

@@ -1,6 +1,6 @@
 //! Readers of statements and blocks (C99, 6.8).
 //!
-//! Each reads what begins at a place, with the room that its height may take, and asks the reader that is lent to it
+//! Each reads what begins at a cursor, with the room that its height may take, and asks the reader that is lent to it
 //! for the parts inside.
 //!
 //! Entry: `statement`, `block`. Invariant: what is answered is what `c_reading` says of the same tokens.

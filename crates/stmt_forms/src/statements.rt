@@ -13,10 +13,10 @@ use crate::jumps::{
 };
 use crate::labelled::{case_stmt, default_stmt, label};
 use c_nodes::SizedStmt;
-use c_reading::{Fault, StmtStart};
+use c_reading::{FaultKind, StmtStart};
 use qual_base::NameId;
 use reader_base::{
-    Answer, Ask, Begun, Place, ReadError, begins_expr, behind_first, is_colon, kind_at, refused,
+    Answer, Ask, Begun, Cursor, ReadError, begins_expr, behind_first, is_colon, kind_at, refused,
     room_for, stmt_start,
 };
 
@@ -26,22 +26,22 @@ fn named_stmt<'a, F>(
     lent: &F,
     name: NameId,
     room: u16,
-    place: &mut Place<'a>,
+    cursor: &mut Cursor<'a>,
     depth: u32,
 ) -> Result<SizedStmt, ReadError>
 where
-    F: Fn(Ask, &mut Place<'a>) -> Result<Answer, ReadError>,
+    F: Fn(Ask, &mut Cursor<'a>) -> Result<Answer, ReadError>,
     requires { Lends F.Fn lent.now depth }
-    ensures { ReadsStmt place.old place.new result (stating.named_stmt (knot depth) name room) }
+    ensures { ReadsStmt cursor.old cursor.new result (stating.named_stmt (knot depth) name room) }
 {
-    room_for(2, room, place)?;
-    if is_colon(kind_at(behind_first(place.rest))) {
-        return label(lent, room, place, depth);
+    room_for(2, room, cursor)?;
+    if is_colon(kind_at(behind_first(cursor.rest))) {
+        return label(lent, room, cursor, depth);
     }
-    if place.scopes.names_type(name) {
-        return Err(refused(Fault::Unexpected, behind_first(place.rest)));
+    if cursor.scopes.names_type(name) {
+        return Err(refused(FaultKind::Unexpected, behind_first(cursor.rest)));
     }
-    expr_stmt(lent, Begun::Nothing, room, place, depth)
+    expr_stmt(lent, Begun::Nothing, room, cursor, depth)
 }
 
 /// A block as a statement.
@@ -49,16 +49,16 @@ where
 fn block_stmt<'a, F>(
     lent: &F,
     room: u16,
-    place: &mut Place<'a>,
+    cursor: &mut Cursor<'a>,
     depth: u32,
 ) -> Result<SizedStmt, ReadError>
 where
-    F: Fn(Ask, &mut Place<'a>) -> Result<Answer, ReadError>,
+    F: Fn(Ask, &mut Cursor<'a>) -> Result<Answer, ReadError>,
     requires { Lends F.Fn lent.now depth }
-    ensures { ReadsStmt place.old place.new result (block_stmt_with depth room) }
+    ensures { ReadsStmt cursor.old cursor.new result (block_stmt_with depth room) }
 {
-    let found = block(lent, room, place, depth)?;
-    let made = decl_nodes::block(place.alloc, found)?;
+    let found = block(lent, room, cursor, depth)?;
+    let made = decl_nodes::block(cursor.alloc, found)?;
     Ok(made)
 }
 
@@ -67,19 +67,19 @@ where
 fn value_stmt<'a, F>(
     lent: &F,
     room: u16,
-    place: &mut Place<'a>,
+    cursor: &mut Cursor<'a>,
     depth: u32,
 ) -> Result<SizedStmt, ReadError>
 where
-    F: Fn(Ask, &mut Place<'a>) -> Result<Answer, ReadError>,
+    F: Fn(Ask, &mut Cursor<'a>) -> Result<Answer, ReadError>,
     requires { Lends F.Fn lent.now depth }
-    ensures { ReadsStmt place.old place.new result (value_stmt_with depth room) }
+    ensures { ReadsStmt cursor.old cursor.new result (value_stmt_with depth room) }
 {
-    if !begins_expr(&place.scopes, kind_at(place.rest)) {
-        return Err(refused(Fault::Unexpected, place.rest));
+    if !begins_expr(&cursor.scopes, kind_at(cursor.rest)) {
+        return Err(refused(FaultKind::Unexpected, cursor.rest));
     }
-    room_for(2, room, place)?;
-    expr_stmt(lent, Begun::Nothing, room, place, depth)
+    room_for(2, room, cursor)?;
+    expr_stmt(lent, Begun::Nothing, room, cursor, depth)
 }
 
 /// A statement (C99, 6.8), by what it begins with.
@@ -89,31 +89,31 @@ where
 pub fn statement<'a, F>(
     lent: &F,
     room: u16,
-    place: &mut Place<'a>,
+    cursor: &mut Cursor<'a>,
     depth: u32,
 ) -> Result<SizedStmt, ReadError>
 where
-    F: Fn(Ask, &mut Place<'a>) -> Result<Answer, ReadError>,
+    F: Fn(Ask, &mut Cursor<'a>) -> Result<Answer, ReadError>,
     requires { Lends F.Fn lent.now depth }
-    ensures { ReadsStmt place.old place.new result (stating.stmt_with (knot depth) room) }
+    ensures { ReadsStmt cursor.old cursor.new result (stating.stmt_with (knot depth) room) }
 {
-    match stmt_start(kind_at(place.rest)) {
-        StmtStart::Block => block_stmt(lent, room, place, depth),
-        StmtStart::Semicolon => null_stmt(room, place),
-        StmtStart::Attribute => attr_stmt(room, place, depth),
-        StmtStart::Name(name) => named_stmt(lent, name, room, place, depth),
-        StmtStart::Case => case_stmt(lent, room, place, depth),
-        StmtStart::Default => default_stmt(lent, room, place, depth),
-        StmtStart::If => if_stmt(lent, room, place, depth),
-        StmtStart::Switch => switch_stmt(lent, room, place, depth),
-        StmtStart::While => while_stmt(lent, room, place, depth),
-        StmtStart::Do => do_stmt(lent, room, place, depth),
-        StmtStart::For => for_stmt(lent, room, place, depth),
-        StmtStart::Goto => goto_stmt(lent, room, place, depth),
-        StmtStart::Continue => continue_stmt(room, place, depth),
-        StmtStart::Break => break_stmt(room, place, depth),
-        StmtStart::Return => return_stmt(lent, room, place, depth),
-        StmtStart::Asm => asm_stmt(room, place, depth),
-        StmtStart::Value => value_stmt(lent, room, place, depth),
+    match stmt_start(kind_at(cursor.rest)) {
+        StmtStart::Block => block_stmt(lent, room, cursor, depth),
+        StmtStart::Semicolon => null_stmt(room, cursor),
+        StmtStart::Attribute => attr_stmt(room, cursor, depth),
+        StmtStart::Name(name) => named_stmt(lent, name, room, cursor, depth),
+        StmtStart::Case => case_stmt(lent, room, cursor, depth),
+        StmtStart::Default => default_stmt(lent, room, cursor, depth),
+        StmtStart::If => if_stmt(lent, room, cursor, depth),
+        StmtStart::Switch => switch_stmt(lent, room, cursor, depth),
+        StmtStart::While => while_stmt(lent, room, cursor, depth),
+        StmtStart::Do => do_stmt(lent, room, cursor, depth),
+        StmtStart::For => for_stmt(lent, room, cursor, depth),
+        StmtStart::Goto => goto_stmt(lent, room, cursor, depth),
+        StmtStart::Continue => continue_stmt(room, cursor, depth),
+        StmtStart::Break => break_stmt(room, cursor, depth),
+        StmtStart::Return => return_stmt(lent, room, cursor, depth),
+        StmtStart::Asm => asm_stmt(room, cursor, depth),
+        StmtStart::Value => value_stmt(lent, room, cursor, depth),
     }
 }

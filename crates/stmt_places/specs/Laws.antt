@@ -1,6 +1,5 @@
 -- What each reader inside owes, the readers of blocks and of statements over them owe too; so the items of a unit are
--- refused
--- where they should be.
+-- refused where they should be.
 use Rattle.std.specs.Prelude.{ℕ, suc, ◌<◌, ◌≤◌, false}
 use Rattle.c_reading.specs.Tokens.{is_end}
 use Rattle.c_reading.specs.Knot.{knot}
@@ -19,4 +18,6 @@ StmtsArePlaced = (n : ℕ) → InnerLaws (suc n) (knot n) → StmtPlaces (suc (s
 
 -- over readers that owe this the items of a unit are refused where they should be, with room for a function at least
 abbrev pub ItemsArePlaced : Type 0
-ItemsArePlaced = (n room : ℕ) → InnerLaws (suc n) (knot n) → room < suc n → 4 ≤ room → Law false (items_with (knot n) room) any is_end
+ItemsArePlaced =
+    (n room : ℕ) → InnerLaws (suc n) (knot n) → room < suc n → 4 ≤ room
+    → Law false (items_with (knot n) room) any is_end

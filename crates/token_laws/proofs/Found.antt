@@ -71,7 +71,8 @@ module _ (S : Place → Type 0) (u : Spelling) (s : Names) where
   expr_at st (exprs.Paren token) is = tt
   expr_at st (exprs.Ext token) is = tt
   expr_at st (exprs.Comma token) is = tt
-  expr_at st (exprs.Assign sign token first last) is = fault_ok S (not (shape_at 1 st).is_place) (place u token) not_place is.0
+  expr_at st (exprs.Assign sign token first last) is =
+      fault_ok S (not (shape_at 1 st).is_place) (place u token) not_place is.0
   expr_at st (exprs.Cond has_middle token first last) is = tt
   expr_at st (exprs.Binary sign token first last) is = tt
   expr_at st (exprs.Prefix sign token last aims) is =
@@ -83,11 +84,12 @@ module _ (S : Place → Type 0) (u : Spelling) (s : Names) where
   expr_at st (exprs.Post sign token first) is = fault_ok S (not (shape_at 0 st).is_place) (place u token) not_place is.0
   expr_at st (exprs.Index token first last aims) is =
       let a = value (shape_at 1 st) in
-      fault_ok S (is_no_pointer a && is_no_pointer (value (shape_at 0 st)) && not (u.wide && is_base_value a)) (place u token)
-      not_pointer is.0
+      fault_ok S (is_no_pointer a && is_no_pointer (value (shape_at 0 st)) && not (u.wide && is_base_value a))
+      (place u token) not_pointer is.0
   expr_at st (exprs.Arg behind first last) is = tt
   expr_at st (exprs.Call token count) is = call_at token (value_at count st) count is.0
-  expr_at st (exprs.Arrow token first last aims) is = fault_ok S (is_no_pointer (value_at 0 st)) (place u token) not_pointer is.0
+  expr_at st (exprs.Arrow token first last aims) is =
+      fault_ok S (is_no_pointer (value_at 0 st)) (place u token) not_pointer is.0
   expr_at st (exprs.Dot token member name) is =
       fault_ok S (lacks_member s.aggregates (value_at 0 st) (u.key name)) (place u member) no_member is.1.0
   expr_at st (exprs.Label token) is = tt
@@ -118,7 +120,8 @@ module _ (S : Place → Type 0) (u : Spelling) (s : Names) where
   init_at st (inits.Literal token) is = tt
   init_at st inits.ListBegin is = tt
   init_at st (inits.Member token name) is =
-      fault_ok S (lacks_member s.aggregates (designated (first_braces st.braces)) (u.key name)) (place u token) no_member is.0
+      fault_ok S (lacks_member s.aggregates (designated (first_braces st.braces)) (u.key name))
+      (place u token) no_member is.0
   init_at st (inits.Index token) is =
       fault_ok S (is_no_pointer (designated (first_braces st.braces))) (place u token) not_pointer is.0
   init_at st (inits.Leaf first last) is = tt
@@ -146,7 +149,8 @@ module _ (S : Place → Type 0) (u : Spelling) (s : Names) where
   fresh_there : (r : Rounds) (token : ℕ) (t : CType) → S (place u token) → StartsAt S (fresh (around u s r) token t)
   fresh_there r token t is = by (around u s r).is_quiet
     where
-      by : (b : Bool) → StartsAt S (if b then [] else record { at = place u token; type = t; owner = (around u s r).enclosing; calls = None } ∷ [])
+      by : (b : Bool) → StartsAt S (if b then []
+          else record { at = place u token; type = t; owner = (around u s r).enclosing; calls = None } ∷ [])
       by true = tt
       by false = (is, tt)
 
@@ -181,7 +185,12 @@ module _ (S : Place → Type 0) (u : Spelling) (s : Names) where
       StartsAt S (instance (around u s r) token p t)
   instance_there r token p t is = by (around u s r).is_quiet
     where
-      by : (b : Bool) → StartsAt S (if b then [] else record { at = place u token; type = pointer [] t; owner = (around u s r).enclosing; calls = Some (link_of s p) } ∷ [])
+      by : (b : Bool) → StartsAt S (if b then [] else record {
+        at = place u token;
+        type = pointer [] t;
+        owner = (around u s r).enclosing;
+        calls = Some (link_of s p);
+      } ∷ [])
       by true = tt
       by false = (is, tt)
 
@@ -208,7 +217,8 @@ module _ (S : Place → Type 0) (u : Spelling) (s : Names) (names : Sound S s) w
   name_there : (f : Option Place) (token : ℕ)
       → StartsAt S (some_declared_start s f (declared_at s.declared (place u token)))
   name_there f token =
-      some_there S u s f (declared_at s.declared (place u token)) (declared_there S s.declared (place u token) names.declared)
+      some_there S u s f (declared_at s.declared (place u token))
+      (declared_there S s.declared (place u token) names.declared)
 
   had_there : (it : Having) (r : Rounds) (token : ℕ) → StartsAt S (had_name it (around u s r) token)
   had_there with_skeleton r token = name_there (around u s r).enclosing token
@@ -227,7 +237,8 @@ module _ (S : Place → Type 0) (u : Spelling) (s : Names) (names : Sound S s) w
   expr_starts st r (exprs.Assign sign token first last) is = tt
   expr_starts st r (exprs.Cond has_middle token first last) is =
       where_fresh S u s (not (is_zero_at 1 st) && not (is_zero_at 0 st)) _
-      (some_fresh_there S u s r token (shape_at 0 (expr_step u s st (exprs.Cond has_middle token first last))).type is.0)
+      (some_fresh_there S u s r token
+      (shape_at 0 (expr_step u s st (exprs.Cond has_middle token first last))).type is.0)
   expr_starts st r (exprs.Binary sign token first last) is =
       where_fresh S u s (is_fresh_binary sign (is_some_pointer (value_at 1 st)) (is_some_pointer (value_at 0 st))) _
       (fresh_there S u s r token (base []) is.0)
@@ -257,7 +268,8 @@ module _ (S : Place → Type 0) (u : Spelling) (s : Names) (names : Sound S s) w
   form_starts st r forms.Control is = tt
   form_starts st r forms.NoType is = tt
   form_starts st r (forms.Choose token) is =
-      where_fresh S u s (is_fresh_pick (chosen st)) _ (some_fresh_there S u s r token (pick_shape (chosen st)).type is.0)
+      where_fresh S u s (is_fresh_pick (chosen st)) _
+      (some_fresh_there S u s r token (pick_shape (chosen st)).type is.0)
   form_starts st r (forms.Generic token count) is =
       let its = selected_among count st in
       where_fresh S u s (is_fresh_pick its) _ (some_fresh_there S u s r token (pick_shape its).type is.0)

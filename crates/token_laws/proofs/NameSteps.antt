@@ -251,7 +251,8 @@ module _ (S : Place → Type 0) (u : Spelling) where
   specifiers_kept st (specs.Typedef token name) is h = record {
     names = h.names;
     specifiers = record {
-      type = type_by_ok S (meaning st.names (u.key name)) (meant S st.names.scopes st.names.round (u.key name) h.names.scopes);
+      type = type_by_ok S (meaning st.names (u.key name))
+          (meant S st.names.scopes st.names.round (u.key name) h.names.scopes);
       words = h.specifiers.words;
     };
     bodies = h.bodies;
@@ -388,7 +389,8 @@ module _ (S : Place → Type 0) (u : Spelling) where
   ellipsis_ok false ws h = tt
 
   pointed_kept : (st : State) → Kept st → Ok S (piece_of (to_pointer st.specifiers.words) (declaration st).declared)
-  pointed_kept st h = pieced S (to_pointer st.specifiers.words) (declaration st).declared h.specifiers.words (this_one st h).declared
+  pointed_kept st h =
+      pieced S (to_pointer st.specifiers.words) (declaration st).declared h.specifiers.words (this_one st h).declared
 
   with_open : (st : State) (it : OpenDeclaration) → OpenOk it → Kept st →
       Kept (record st { specifiers = no_specifiers; declarations = with_innermost it st.declarations })
@@ -447,7 +449,8 @@ module _ (S : Place → Type 0) (u : Spelling) where
     names = h.names;
     specifiers = h.specifiers;
     bodies = h.bodies;
-    declarations = other (record (declaration st) { name = Some (record { token = token; name = name }) }) st.declarations
+    declarations =
+        other (record (declaration st) { name = Some (record { token = token; name = name }) }) st.declarations
         (record { type = (this_one st h).type; name = is.0; declared = (this_one st h).declared }) h.declarations;
     parameters = h.parameters;
     finished = h.finished;
@@ -463,7 +466,8 @@ module _ (S : Place → Type 0) (u : Spelling) where
     parts = h.parts;
   }
   declarator_kept st declrs.Param is h =
-      let ok : Ok S (decayed (declaration st).declared) = decayed_ok S (declaration st).declared (this_one st h).declared in
+      let ok : Ok S (decayed (declaration st).declared) =
+      decayed_ok S (declaration st).declared (this_one st h).declared in
       record {
         names = declared_param_there u (declaration st).name (length (parameters st).types) (parameters st).own
             (decayed (declaration st).declared) (this_one st h).name ok h.names;
@@ -471,16 +475,19 @@ module _ (S : Place → Type 0) (u : Spelling) where
         bodies = h.bodies;
         declarations = fewer st.declarations h.declarations;
         parameters = other_parameters
-            (record (parameters st) { types = (parameters st).types ++ decayed (declaration st).declared ∷ [] }) st.parameters
+            (record (parameters st)
+            { types = (parameters st).types ++ decayed (declaration st).declared ∷ [] }) st.parameters
             (record {
-              types = list_append S (parameters st).types (decayed (declaration st).declared ∷ []) (this_list st h).types (ok, tt);
+              types = list_append S (parameters st).types (decayed (declaration st).declared ∷ [])
+                  (this_list st h).types (ok, tt);
               identifiers = (this_list st h).identifiers;
             }) h.parameters;
         finished = h.finished;
         parts = h.parts;
       }
   declarator_kept st declrs.ParamsEnd is h = record {
-    names = keep_there (parameters st).own (old_faults_there S u (parameters st).identifiers (this_list st h).identifiers h.names);
+    names = keep_there (parameters st).own
+        (old_faults_there S u (parameters st).identifiers (this_list st h).identifiers h.names);
     specifiers = h.specifiers;
     bodies = h.bodies;
     declarations = h.declarations;
@@ -493,13 +500,16 @@ module _ (S : Place → Type 0) (u : Spelling) where
     parts = h.parts;
   }
   declarator_kept st declrs.Pointer is h =
-      with_open st _ (record { type = (this_one st h).type; name = (this_one st h).name; declared = pointed_kept st h }) h
+      with_open st _
+      (record { type = (this_one st h).type; name = (this_one st h).name; declared = pointed_kept st h }) h
   declarator_kept st declrs.Array is h =
-      with_open st _ (record { type = (this_one st h).type; name = (this_one st h).name; declared = pointed_kept st h }) h
+      with_open st _
+      (record { type = (this_one st h).type; name = (this_one st h).name; declared = pointed_kept st h }) h
   declarator_kept st (declrs.Function has_ellipsis) is h =
       let types = listed S (innermost_or [] st.finished) (those_types st.finished h.finished) in
       let further = ellipsis_ok has_ellipsis st.specifiers.words h.specifiers.words in
-      let ok = pieced S (to_function (types_in (innermost_or [] st.finished)) (ellipsis_where has_ellipsis st.specifiers.words))
+      let ok =
+      pieced S (to_function (types_in (innermost_or [] st.finished)) (ellipsis_where has_ellipsis st.specifiers.words))
       (declaration st).declared (types, further) (this_one st h).declared in
       record {
         names = h.names;
@@ -516,7 +526,8 @@ module _ (S : Place → Type 0) (u : Spelling) where
   declarator_kept st (declrs.AutoEnd token) is h =
       let t = value (shape_of_part u st) in
       let ok : Ok S (with_words (words_of (declaration st).type) (bare_or_base t)) =
-      worded S (words_of (declaration st).type) (bare_or_base t) (words_are S (declaration st).type (this_one st h).type)
+      worded S (words_of (declaration st).type) (bare_or_base t)
+      (words_are S (declaration st).type (this_one st h).type)
       (bare_or_ok t) in
       name_kept _ (record {
         names = faults_there (fault_where (is_unknown t) (place u token) no_type)
@@ -537,7 +548,8 @@ module _ (S : Place → Type 0) (u : Spelling) where
       (decayed (declaration st).declared) (olds st) (this_one st h).name
       (decayed_ok S (declaration st).declared (this_one st h).declared) (these_olds st h)) h))
   declarator_kept st declrs.Member is h = record {
-    names = declared_member_there u (declaration st).name (body st).members_of (declaration st).declared (this_one st h).name
+    names = declared_member_there u (declaration st).name (body st).members_of (declaration st).declared
+        (this_one st h).name
         (this_one st h).declared h.names;
     specifiers = h.specifiers;
     bodies = h.bodies;

@@ -92,7 +92,8 @@ module _ {S : Place → Type 0} where
 
   pub sized_there : (at : Place) (t : CType) → S at → {s : Names} → Sound S s → Sound S (sized at t s)
   sized_there at t is h =
-      faults_there (fault_where (nat_lt 4096 (size t)) at type_too_large) (fault_ok S (nat_lt 4096 (size t)) at type_too_large is) h
+      faults_there (fault_where (nat_lt 4096 (size t)) at type_too_large)
+      (fault_ok S (nat_lt 4096 (size t)) at type_too_large is) h
 
   -- uses
 
@@ -187,7 +188,8 @@ module _ {S : Place → Type 0} where
   pub declaring_there : (at : Place) (role : Role) (first : Place) (t : CType) (own : Option Place) → S at → Ok S t →
       {s : Names} → Sound S s → Sound S (declaring at role first t own s)
   declaring_there at role first t own is ok {s} h = record {
-    declared = declared_append S s.declared (record { at = at; role = role; first = first; type = t; owner = owner_where s first at own } ∷ [])
+    declared = declared_append S s.declared
+        (record { at = at; role = role; first = first; type = t; owner = owner_where s first at own } ∷ [])
         h.declared ((is, ok), tt);
     scopes = h.scopes;
     kept = h.kept;
@@ -208,7 +210,8 @@ module _ {S : Place → Type 0} where
       bound_there name (means_thing (linked name at s)) tt
       (declaring_there at (if is_function t then function_role else object_role) (linked name at s) t
       (if is_function t then Some at else None) is ok
-      (static_there (has_word keywords.Static words) at.0 name (thing_there (is_place (linked name at s) at) name at h)))
+      (static_there (has_word keywords.Static words) at.0 name
+      (thing_there (is_place (linked name at s) at) name at h)))
 
   declared_typedef_there : (at : Place) (name : ℕ) (t : CType) → S at → Ok S t → {s : Names} → Sound S s →
       Sound S (declared_typedef at name t s)
@@ -224,8 +227,10 @@ module _ {S : Place → Type 0} where
       Sound S (declared_by words at name t s)
   declared_by_there words at name t is ok {s} h =
       either (has_word keywords.Typedef words) (declared_typedef_there at name t is ok h)
-      (either (is_at_file s || (is_function t || has_word keywords.Extern words)) (declared_thing_there words at name t is ok h)
-      (declared_here_there at name object_role t (if has_word keywords.Static words then None else s.enclosing) is ok h))
+      (either (is_at_file s || (is_function t || has_word keywords.Extern words))
+      (declared_thing_there words at name t is ok h)
+      (declared_here_there at name object_role t
+      (if has_word keywords.Static words then None else s.enclosing) is ok h))
 
   typedef_there : (words : List Keyword) (name : ℕ) (n : Option ℕ) {s : Names} → Sound S s →
       Sound S (typedef_known words name n s)
@@ -244,15 +249,16 @@ module _ {S : Place → Type 0} where
       NamedAt S u it → Ok S t → {s : Names} → Sound S s → Sound S (declared_param u it i own t s)
   declared_param_there u None i own t is ok h = h
   declared_param_there u (Some it) i own t is ok h =
-      declared_here_there (place u it.token) (u.key it.name) (parameter_role i) t own is ok (sized_there (place u it.token) t is h)
+      declared_here_there (place u it.token) (u.key it.name) (parameter_role i) t own is ok
+      (sized_there (place u it.token) t is h)
 
   pub declared_member_there : (u : Spelling) (it : Option Named) (n : ℕ) (t : CType) → NamedAt S u it → Ok S t →
       {s : Names} → Sound S s → Sound S (declared_member u it n t s)
   declared_member_there u None n t is ok h = h
   declared_member_there u (Some it) n t is ok {s} h =
-      sized_there (place u it.token) t is (body_there n (with_member (u.key it.name) (place u it.token) t)
-      (declaring_there (place u it.token) (field_role n (length (or_no_body (body_of s.aggregates n)).own)) (place u it.token) t
-      None is ok h))
+      sized_there (place u it.token) t is
+      (body_there n (with_member (u.key it.name) (place u it.token) t) (declaring_there (place u it.token)
+      (field_role n (length (or_no_body (body_of s.aggregates n)).own)) (place u it.token) t None is ok h))
 
   pub unnamed_there : (at : Place) (n : ℕ) (t : CType) → S at → Ok S t → {s : Names} → Sound S s →
       Sound S (unnamed_member at n t s)

@@ -13,7 +13,9 @@ no_number n m (it ∷ k) less h = by (nat_eq it.at n) refl (no_number n (suc m) 
   where
     by : (b : Bool) → nat_eq it.at n ≡ b → has_number n k ≡ false → (if b then true else has_number n k) ≡ false
     by true e none =
-        let same : it.at ≡ n = eqb-true it.at n e in let place : it.at ≡ m = h.0 in absurd (omega (arith, same, place, less))
+        let same : it.at ≡ n = eqb-true it.at n e in
+        let place : it.at ≡ m = h.0 in
+        absurd (omega (arith, same, place, less))
     by false e none = none
 
 -- tokens that are numbered by their places have different numbers

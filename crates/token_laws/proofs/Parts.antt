@@ -1,9 +1,6 @@
 -- Parts of texts and of tapes, and what stands round other nodes.
-use Rattle.std.proofs.Common.{◌≡◌, ℕ, All, Any, Bool, true, false, List, [], ◌∷◌, Option, None, Some, length, nat_eq, inl, inr, sym, arith, IsPermutation}
+use Rattle.std.proofs.Common.{ℕ, All, Bool, true, false, List, [], ◌∷◌, Option, None, Some}
 use Rattle.std.proofs.lemmas.List.Elements.{All-head, All-tail}
-use Rattle.std.proofs.lemmas.List.Folds.{list_any-from_Any}
-use Rattle.std.proofs.lemmas.List.Sorted.{length_permutation}
-use Rattle.std.proofs.lemmas.Bool.{eq-eqb}
 use Rattle.std.specs.Prelude.{if◌then◌else◌}
 use Rattle.c_words.specs.declared.kinds.Punct.{Punct}
 use Rattle.c_syntax.specs.declared.parts.Identifier.{Identifier}
@@ -24,24 +21,11 @@ use Rattle.c_tree.specs.declared.lexeme.Lexeme.{Lexeme}
 use Rattle.c_tree.specs.Tree.{SpecWords, no_words, more_words, Params, no_params, more_params, Dots}
 use Rattle.c_tree.specs.Text.{some_sign_text, tag_text, words_text, other_names_text, names_text, extensions_text, texts_text, group_text, tokens_between, attrs_text, label_text, assert_text, qual_text, quals_text, pointer_words_text, array_words_text, dots_text}
 use Rattle.c_tree.specs.Firsts.{qual_token, word_token, first_word}
-use Rattle.c_tree.specs.Specifiers.{IsMix, basic_types}
+use Rattle.c_tree.specs.Specifiers.{IsMix}
 use Rattle.c_tree.specs.WellFormed.{IsElement, IsQual, IsWordQual, IsPointerWord, IsArrayWord, IsEllipsis}
+use Rattle.c_tree.proofs.NoType.{no_mix_of_none}
 use Rattle.c_tape.specs.Tape.{quals_tape, pointer_words_tape, array_words_tape, dots_tape, tag_tape, body_tape, quietly, in_scope, params_with, identifiers_tape}
 use Rattle.token_laws.proofs.Texts.{Holds, Covers, empty, one, both, nothing, none, so, head, skip, skips, bind, mute, set}
-
--- specifiers are no mix without a word
-
--- no basic type is made of no words
-no_type_of_none : Any (IsPermutation []) basic_types → ⊥
-no_type_of_none (at, set, less, is, same) =
-    let long : 0 ≡ length set = sym (length_permutation [] set same) in
-    let yes = list_any-from_Any (λ set. nat_eq 0 (length set)) basic_types (at, set, less, is, eq-eqb 0 (length set) long) in
-    let wrong : true ≡ false = sym yes in
-    absurd cc
-
-no_mix_of_none : IsMix no_words → ⊥
-no_mix_of_none (inl one, stores) = no_type_of_none one.1
-no_mix_of_none (inr one, stores) = let zero_is_one : 0 ≡ 1 = one.0 in omega (arith, zero_is_one)
 
 module _ (P : ℕ → Type 0) where
   -- of the first word, where there is one
@@ -170,7 +154,8 @@ module _ {P : ℕ → Type 0} (all : List Lexeme) (element : (n : ℕ) → IsEle
       bind (qual_at q (All-head (IsPointerWord all) (pointer_words.Qual q) words h)) (λ is. so (pointer_words_at words
       (All-tail (IsPointerWord all) (pointer_words.Qual q) words h)) (λ f. both (one (is, tt)) f))
   pointer_words_at (pointer_words.Attr attr ∷ words) h =
-      skip (group_skip all attr.group (pointer_words_at words (All-tail (IsPointerWord all) (pointer_words.Attr attr) words h)))
+      skip (group_skip all attr.group
+      (pointer_words_at words (All-tail (IsPointerWord all) (pointer_words.Attr attr) words h)))
 
   pub array_words_at : (words : List ArrayWord) → All (IsArrayWord all) words → {k : List Lexeme} →
       Covers P (Holds P (array_words_tape words)) [] (array_words_text all words k) k
@@ -185,7 +170,8 @@ module _ {P : ℕ → Type 0} (all : List Lexeme) (element : (n : ℕ) → IsEle
       Covers P (Holds P (quals_tape qs)) [] (quals_text all qs k) k
   word_quals_at [] h = none
   word_quals_at (q ∷ qs) h =
-      bind (qual_at q (All-head (IsWordQual all) q qs h).0) (λ is. so (word_quals_at qs (All-tail (IsWordQual all) q qs h))
+      bind (qual_at q (All-head (IsWordQual all) q qs h).0) (λ is.
+      so (word_quals_at qs (All-tail (IsWordQual all) q qs h))
       (λ f. both (one (is, tt)) f))
 
   pub dots_at : (ps : Params) (dots : Option Dots) → IsEllipsis all ps dots → {k : List Lexeme} →

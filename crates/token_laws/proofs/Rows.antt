@@ -82,7 +82,8 @@ module _ (S : Span → Type 0) (w : World) where
 
   pub index_stand : (a b : Skel) (aims : Bool) (where_ : Span) → S where_ → Stand S (index_demand w a b aims where_)
   index_stand a b aims where_ is =
-      none_where S (is_vector_index w.spelling.wide a b) _ (dereferenced_stand (if is_ref a then a else b) aims where_ is)
+      none_where S (is_vector_index w.spelling.wide a b) _
+      (dereferenced_stand (if is_ref a then a else b) aims where_ is)
 
   -- words of types
 
@@ -222,10 +223,12 @@ module _ (S : Span → Type 0) (w : World) where
     indices (void ws) s h = indexed_there (root s) ws h
     indices (struct ws n) s h = indexed_there (root s) ws h
     indices (pointer ws t) s h =
-        indices_append (indexed_at w (root s) ws) (indexed w t (inner s)) (indexed_there (root s) ws h.0) (indices t (inner s) h.1)
+        indices_append (indexed_at w (root s) ws) (indexed w t (inner s)) (indexed_there (root s) ws h.0)
+        (indices t (inner s) h.1)
     indices (function ws ps r e) s h =
         let more = some_indexed_at w (further s) (words_or_none e) in
-        indices_append (indexed_at w (root s) ws) (indexed_params w ps (parameters s) ++ (indexed w r (outcome s) ++ more))
+        indices_append (indexed_at w (root s) ws)
+        (indexed_params w ps (parameters s) ++ (indexed w r (outcome s) ++ more))
         (indexed_there (root s) ws h.0)
         (indices_append (indexed_params w ps (parameters s)) (indexed w r (outcome s) ++ more)
         (indices_of ps (parameters s) h.1)
@@ -278,7 +281,8 @@ module _ (S : Span → Type 0) (w : World) where
   -- what passes inside a skeleton
 
   some_stand : (lattices : ℕ) (where_ : Span) (u v : ℕ) → S where_ → Stand S (in_some lattices where_ (Le u v))
-  some_stand lattices where_ u v is = none_where S (nat_eq lattices 0) (constraint lattices where_ (Le u v) ∷ []) (is, tt)
+  some_stand lattices where_ u v is =
+      none_where S (nat_eq lattices 0) (constraint lattices where_ (Le u v) ∷ []) (is, tt)
 
   into_members_stand : (ways : Ways) (skeletons : List Numbered) (where_ : Span) (n : ℕ) (own : List Own) → S where_ →
       Stand S (into_members ways skeletons where_ n own)
@@ -308,7 +312,8 @@ module _ (S : Span → Type 0) (w : World) where
         lists_stand S (all_formed_in ways skeletons all where_ ps) (formed_in ways skeletons all where_ r)
         (all_formed_in_stand ways skeletons all where_ ps is) (formed_in_stand ways skeletons all where_ r is)
 
-    all_formed_in_stand : (ways : Ways) (skeletons : List Numbered) (all : List Aggregate) (where_ : Span) (ps : Skels) →
+    all_formed_in_stand : (ways : Ways) (skeletons : List Numbered) (all : List Aggregate) (where_ : Span)
+        (ps : Skels) →
         S where_ → Stand S (all_formed_in ways skeletons all where_ ps)
     all_formed_in_stand ways skeletons all where_ no_skels is = tt
     all_formed_in_stand ways skeletons all where_ (more_skels s ss) is =
@@ -397,7 +402,8 @@ module _ (S : Span → Type 0) (w : World) where
 
   pub taken_stand : (list t : Skel) (where_ : Span) → S where_ → Stand S (taken w list t where_)
   taken_stand list t where_ is =
-      none_where S (is_nothing list || is_nothing t) _ (links_stand S (all_lattices w) where_ (unsmash (root list) t) is)
+      none_where S (is_nothing list || is_nothing t) _
+      (links_stand S (all_lattices w) where_ (unsmash (root list) t) is)
 
   -- names
 
@@ -432,7 +438,8 @@ module _ (S : Span → Type 0) (w : World) where
       let s = skeleton w d.at in
       lists_stand S (formed_name w d) (plain_name_row w d) (formed_stand (word_span d.at) s is)
       (lists_stand S (annotating_name w d) _ (annotating_stand t s (tt, ok))
-      (lists_stand S (indexing w t s) (tied_to w d (equal_to w d)) (all_stand (indexed w t s) (indexed w t s) (indices t s (tt, ok)))
+      (lists_stand S (indexing w t s) (tied_to w d (equal_to w d))
+      (all_stand (indexed w t s) (indexed w t s) (indices t s (tt, ok)))
       (tied_stand d (equal_to w d) is)))
 
   declared_stand : (d : Declared) (role : Role) → AtWord S d.at → Ok (AtWord S) d.type → Stand S (declared_row w d role)
@@ -459,11 +466,14 @@ module _ (S : Span → Type 0) (w : World) where
   param_stand f n (Some d) h =
       lists_stand S (formed_name w d) (plain_param_row w f n d) (formed_stand (word_span d.at) (skeleton w d.at) h.0)
       (lists_stand S (annotating_name w d) (into_param w (param_at (parameters f) n) d)
-      (annotating_stand (pointer [] d.type) (skeleton w d.at) (tt, h.1)) (into_param_stand (param_at (parameters f) n) d h.0))
+      (annotating_stand (pointer [] d.type) (skeleton w d.at) (tt, h.1))
+      (into_param_stand (param_at (parameters f) n) d h.0))
 
   pub row_stand : (kind : RowKind) (token : ℕ) → DeclaredOk (AtWord S) w.names.declared → Stand S (row_at w kind token)
   row_stand no_row token h = tt
   row_stand row_of_name token h =
-      some_declared_stand (declared_at w.names.declared (at w token)) (declared_there (AtWord S) w.names.declared (at w token) h)
+      some_declared_stand (declared_at w.names.declared (at w token))
+      (declared_there (AtWord S) w.names.declared (at w token) h)
   row_stand (row_of_param f n) token h =
-      param_stand f n (declared_at w.names.declared (at w token)) (declared_there (AtWord S) w.names.declared (at w token) h)
+      param_stand f n (declared_at w.names.declared (at w token))
+      (declared_there (AtWord S) w.names.declared (at w token) h)

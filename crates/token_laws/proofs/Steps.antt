@@ -64,7 +64,8 @@ module _ (S : Span → Type 0) (A : ℕ → Type 0) (w : World) (pair : (a b : �
   type_ok (named_type t) h = h
 
   type_there : (n : ℕ) (st : State) → OperandsOk st.operands → SomeOk (AtWord S) (type_at n st)
-  type_there n st h = type_ok (first_operand (drop n st.operands)) (first_ok (drop n st.operands) (fewer n st.operands h))
+  type_there n st h =
+      type_ok (first_operand (drop n st.operands)) (first_ok (drop n st.operands) (fewer n st.operands h))
 
   below_ok : (st : State) → OperandsOk st.operands → OperandsOk (operands_below st)
   below_ok st h = fewer (depth_below st) st.operands h
@@ -237,18 +238,21 @@ module _ (S : Span → Type 0) (A : ℕ → Type 0) (w : World) (pair : (a b : �
   form_stand : (st : State) (op : FormOp) → AllIn A (form_tokens op) → OperandsOk st.operands
       → Stand S (form_row w st op)
   form_stand st (forms.Cast token last) is h =
-      cast_stand S w (type_at 1 st) (is_zero_at 0 st) (value_at 0 st) (own w token) (span w token last) (type_there 1 st h)
+      cast_stand S w (type_at 1 st) (is_zero_at 0 st) (value_at 0 st) (own w token) (span w token last)
+      (type_there 1 st h)
       (pair token last is.0 is.1.0)
   form_stand st (forms.Sizeof token) is h = tt
   form_stand st (forms.StmtExpr has_value token) is h = tt
   form_stand st (forms.VaArg token last) is h =
       let good = pair token last is.0 is.1.0 in
-      lists_stand S (formed w (span w token last) (own w token)) _ (formed_stand S w (span w token last) (own w token) good)
+      lists_stand S (formed w (span w token last) (own w token)) _
+      (formed_stand S w (span w token last) (own w token) good)
       (lists_stand S (annotating_some w (type_at 0 st) (own w token)) _
       (annotating_some_stand S w (type_at 0 st) (own w token) (type_there 0 st h))
       (taken_stand S w (value_at 1 st) (own w token) (span w token last) good))
   form_stand st (forms.VaStart token last) is h =
-      started_stand S w (function_skeleton w st.rounds.body) (value_at 1 st) (span w token last) (pair token last is.0 is.1.0)
+      started_stand S w (function_skeleton w st.rounds.body) (value_at 1 st) (span w token last)
+      (pair token last is.0 is.1.0)
   form_stand st (forms.VaCopy token last) is h =
       flowing_stand S w (is_zero_at 0 st) (value_at 0 st) (value_at 1 st) (all_lattices w) (span w token last)
       (pair token last is.0 is.1.0)
@@ -272,7 +276,8 @@ module _ (S : Span → Type 0) (A : ℕ → Type 0) (w : World) (pair : (a b : �
   init_stand st inits.Begin is h = tt
   init_stand st inits.Rule is h = tt
   init_stand st (inits.Literal token) is h =
-      lists_stand S (formed_here w token) (annotating_place w (type_of_operand (first_operand (operands_below st))) (own w token))
+      lists_stand S (formed_here w token)
+      (annotating_place w (type_of_operand (first_operand (operands_below st))) (own w token))
       (formed_here_stand S w token (pair token token is.0 is.0))
       (annotating_place_stand S w (type_of_operand (first_operand (operands_below st))) (own w token) (type_below st h))
   init_stand st inits.ListBegin is h = tt
@@ -290,7 +295,8 @@ module _ (S : Span → Type 0) (A : ℕ → Type 0) (w : World) (pair : (a b : �
   spec_stand op is = tt
 
   declr_stand : (st : State) (op : DeclrOp) → Stand S (declr_row w st op)
-  declr_stand st (declrs.DeclName token name) = row_stand S w (naming_row w (naming st.rounds) token) token names.declared
+  declr_stand st (declrs.DeclName token name) =
+      row_stand S w (naming_row w (naming st.rounds) token) token names.declared
   declr_stand st (declrs.ParamsBegin is_own) = tt
   declr_stand st declrs.Param = tt
   declr_stand st declrs.ParamsEnd = tt

@@ -15,26 +15,15 @@ use Rattle.c_tree.specs.declared.lexeme.Lexeme.{Lexeme}
 use Rattle.c_tree.specs.Tree.{Expr, operation, cast, prefix, sizeof_value, sizeof_type, extension, index, call, dot, arrow, post, compound, name_use, number_use, char_use, text_use, paren, statement_expr, va_arg, va_start, va_copy, offset, Operator, comma, assign, cond, binary, SomeExpr, no_expr, some_expr, Exprs, no_exprs, more_exprs, SpecWords, no_words, more_words, SpecWord, storage, thread, inline_word, noreturn, qualifier, basic, struct_type, enum_type, typedef_name, attribute, SomeBody, no_body, some_body, StructItems, no_struct_items, more_struct_items, StructItem, member, member_semi, member_assert, MemDeclrs, no_mem_declrs, more_mem_declrs, MemDeclr, named, unnamed, SomeValue, no_value, some_value, EnumType, enum_of, SomeEnumBody, no_enum_body, some_enum_body, Enumerators, no_enumerators, more_enumerators, Declr, pointer, declr_name, declr_paren, array, params, abs_pointer, abs_paren, abs_array, abs_params, SomeDeclr, no_declr, some_declr, SomeSize, no_size, some_size, ArraySize, size_value, size_star, Params, no_params, more_params, Init, init_value, init_braced, InitList, init_list, InitItems, no_init_items, more_init_items, Desigs, no_desigs, more_desigs, Desig, member_desig, index_desig, SomeInit, no_init, some_init, InitDeclrs, no_init_declrs, more_init_declrs, Declaration, declaration, Decl, decl_declaration, decl_assert, BlockItems, no_block_items, more_block_items, BlockItem, block_decl, block_stmt, Stmt, block, expr_stmt, attr_stmt, label, case_stmt, default_stmt, if_stmt, switch_stmt, while_stmt, do_stmt, for_stmt, goto_stmt, continue_stmt, break_stmt, return_stmt, asm_stmt, SomeElse, no_else, some_else, ForStart, start_declaration, start_value, complex_part, label_use, compat, choose, generic, Assocs, no_assocs, more_assocs, Assoc, typed_assoc, default_assoc, typeof_value, typeof_type, align, auto_word, identifiers, base_name, range_desig, old_desig, block_labels, case_range, goto_value}
 use Rattle.c_tree.specs.Text.{tokens_between, texts_text, expr_text, operator_text, some_expr_text, exprs_text, other_exprs_text, spec_words_text, spec_word_text, some_body_text, struct_items_text, struct_item_text, mem_declrs_text, other_mem_declrs_text, mem_declr_text, some_value_text, enum_type_text, some_enum_body_text, enumerators_text, other_enumerators_text, declr_text, some_declr_text, some_size_text, array_size_text, params_text, other_params_text, init_text, init_list_text, init_items_text, other_init_items_text, desigs_text, desig_text, some_init_text, init_declrs_text, other_init_declrs_text, declaration_text, decl_text, block_items_text, block_item_text, stmt_text, some_else_text, for_start_text, assocs_text, assoc_text}
 use Rattle.c_tree.specs.Specifiers.{IsMix}
-use Rattle.c_tree.specs.WellFormed.{IsElement, IsExpr, IsMiddle, IsSomeExpr, AreArguments, AreSteps, IsStep, AreDesigs, IsDesig, AreTypeWords, AreSpecWords, IsSpecWord, IsBody, AreStructItems, IsStructItem, AreMemDeclrs, IsMemDeclr, IsSomeValue, IsEnum, IsEnumBody, AreEnumerators, IsDeclr, IsSomeAbstract, IsSomeDirect, IsSize, IsArraySize, AreParams, IsSomeDeclr, IsInit, IsInitList, AreInitItems, IsSomeInit, AreInitDeclrs, IsDeclaration, IsDecl, AreBlockItems, IsBlockItem, IsStmt, IsOther, IsStart, AreAssocs, IsAssoc}
+use Rattle.c_tree.specs.WellFormed.{IsElement, IsExpr, IsMiddle, IsSomeExpr, AreArguments, AreSteps, IsStep, AreDesigs, IsDesig, AreSpecWords, IsSpecWord, IsBody, AreStructItems, IsStructItem, AreMemDeclrs, IsMemDeclr, IsSomeValue, IsEnum, IsEnumBody, AreEnumerators, IsDeclr, IsSize, IsArraySize, AreParams, IsSomeDeclr, IsInit, IsInitList, AreInitItems, IsSomeInit, AreInitDeclrs, IsDeclaration, IsDecl, AreBlockItems, IsBlockItem, IsStmt, IsOther, IsStart, AreAssocs, IsAssoc}
 use Rattle.c_tree.specs.Unit.{Item, function_item, old_function_item, decl_item, asm_item, semi_item, IsItem, declarations_text, item_text, items_text}
 use Rattle.c_tree.specs.Ends.{first_token, last_token, first_text, number_of_first, FirstBegins, LastEnds}
 use Rattle.c_tree.specs.Firsts.{word_token, first_word}
+use Rattle.c_tree.proofs.Weaker.{type_words_are, abstract_is, direct_is}
 use Rattle.c_tape.specs.Tests.{is_void, tag_kind, says_none, are_auto}
 use Rattle.c_tape.specs.Tape.{expr, spec, arguments, pieces, some_pieces, desigs_tape, desig_tape, rule, rule_of_list, rule_of_items, prefix_tape, tape_in, assocs_tape, assoc_tape, auto_declrs_tape, auto_init_tape, old_declrs_tape, old_declaration_tape, old_declarations_tape, old_contents, array_words_tape, operator_tape, middle_tape, some_expr_tape, exprs_tape, dropped_tape, steps_tape, step_tape, words_tape, word_tape, unnamed_tape, unnamed_word_tape, specs_with, type_name_with, struct_tape, struct_items_tape, struct_item_tape, members_tape, mem_declrs_tape, mem_declr_tape, some_value_tape, enum_tape, enum_body_tape, enumerators_tape, some_declr_tape, contents, some_contents, some_size_tape, size_tape, params_tape, init_tape, list_tape, init_items_tape, indices_tape, index_tape, some_init_tape, declared_init_tape, init_declrs_tape, declaration_tape, decl_tape, block_items_tape, block_item_tape, stmt_tape, some_else_tape, for_start_tape, return_tape, item_tape, tape_of}
 use Rattle.token_laws.proofs.Texts.{AllAt, Holds, Covers, empty, one, both, nothing, none, so, done, join, head, skip, bind, trail, past, ended, ends, put, set, mute, as_fact, known}
 use Rattle.token_laws.proofs.Parts.{Begins, first_of, SomeAt, tag_ops, body_ops, quiet_covers, scope_covers, either, params_cover, some_sign_skip, tag_covers, words_skip, names_skip, names_cover, extensions_skip, texts_skip, group_skip, attrs_skip, label_skip, assert_skip, qual_at, pointer_words_at, array_words_at, dots_at}
-
-type_words : (all : List Lexeme) (ws : SpecWords) → AreTypeWords all ws → AreSpecWords all ws
-type_words all no_words h = tt
-type_words all (more_words word ws) h = (h.0, type_words all ws h.2)
-
-abstract_is : (all : List Lexeme) (d : SomeDeclr) → IsSomeAbstract all d → IsSomeDeclr all d
-abstract_is all no_declr h = tt
-abstract_is all (some_declr d) h = h.0
-
-direct_is : (all : List Lexeme) (d : SomeDeclr) → IsSomeDirect all d → IsSomeDeclr all d
-direct_is all no_declr h = tt
-direct_is all (some_declr d) h = h.0
 
 -- of the ends of an expression
 record Ends (P : ℕ → Type 0) (e : Expr) : Type 0 where
@@ -63,7 +52,8 @@ module _ (P : ℕ → Type 0) where
   void_ops true = one tt
   void_ops false = empty
 
-module _ {P : ℕ → Type 0} (all : List Lexeme) (element : (n : ℕ) → IsElement (tokens_between all n n) → P n) (firsts : FirstBegins)
+module _ {P : ℕ → Type 0} (all : List Lexeme) (element : (n : ℕ) → IsElement (tokens_between all n n) → P n)
+    (firsts : FirstBegins)
     (lasts : LastEnds) where
   ends_of : (e : Expr) → IsExpr all e → (k : List Lexeme) → AllAt P (expr_text all e k) → Ends P e
   ends_of e is k h =
@@ -87,7 +77,8 @@ module _ {P : ℕ → Type 0} (all : List Lexeme) (element : (n : ℕ) → IsEle
 
   -- a `&` takes its operand only addressed
   prefix_covers : (sign : Punct) (token : ℕ) (e : Expr) (aims : Bool) {xs ys : List Op} {t k : List Lexeme} → P token →
-      Covers P (Ends P e) xs t k → Covers P (Ends P e) ys t k → Covers P (Ends P e) (prefix_tape token sign e aims xs ys) t k
+      Covers P (Ends P e) xs t k → Covers P (Ends P e) ys t k
+      → Covers P (Ends P e) (prefix_tape token sign e aims xs ys) t k
   prefix_covers signs.Ampersand token e aims is p q = put p (λ f. one (is, (f.last, tt)))
   prefix_covers sign token e aims is p q = put q (λ f. one (is, (f.last, tt)))
 
@@ -102,27 +93,35 @@ module _ {P : ℕ → Type 0} (all : List Lexeme) (element : (n : ℕ) → IsEle
     expr_covers : (e : Expr) → IsExpr all e → (called aims : Bool) → {k : List Lexeme} →
         Covers P (Ends P e) (tape_in called aims e) (expr_text all e k) k
     expr_covers (operation e op token e2) h called aims =
-        with_ends (operation e op token e2) h (operator_covers op h.3 token e e2 (expr_covers e h.0 false false) (expr_covers e2 h.1 false false))
+        with_ends (operation e op token e2) h
+        (operator_covers op h.3 token e e2 (expr_covers e h.0 false false) (expr_covers e2 h.1 false false))
     expr_covers (cast opening ws d closing e) h called aims =
-        with_ends (cast opening ws d closing e) h (head (λ is. put (join (type_name_covers ws h.0 (words_cover ws (type_words all ws h.1) false) (some_declr_covers d (abstract_is all d h.2)))
+        with_ends (cast opening ws d closing e) h (head (λ is. put (join (type_name_covers ws h.0
+        (words_cover ws (type_words_are all ws h.1) false) (some_declr_covers d (abstract_is all d h.2)))
         (skip (expr_covers e h.3 false false))) (λ f. one (is, (f.1.last, tt)))))
     expr_covers (prefix token p e) h called aims =
-        with_ends (prefix token p e) h (head (λ is. prefix_covers p token e aims is (expr_covers e h.0 false true) (expr_covers e h.0 false false)))
+        with_ends (prefix token p e) h
+        (head (λ is. prefix_covers p token e aims is (expr_covers e h.0 false true) (expr_covers e h.0 false false)))
     expr_covers (sizeof_value word e) h called aims =
-        with_ends (sizeof_value word e) h (head (λ is. put (set (one tt) (expr_covers e h.0 false false)) (λ f. one (is, tt))))
+        with_ends (sizeof_value word e) h
+        (head (λ is. put (set (one tt) (expr_covers e h.0 false false)) (λ f. one (is, tt))))
     expr_covers (sizeof_type word opening ws d closing) h called aims =
         with_ends (sizeof_type word opening ws d closing) h (head (λ is. put (set (one tt) (skip (ends
-        (type_name_covers ws h.0 (words_cover ws (type_words all ws h.1) false) (some_declr_covers d (abstract_is all d h.2)))))) (λ f. one (is, tt))))
+        (type_name_covers ws h.0 (words_cover ws (type_words_are all ws h.1) false)
+        (some_declr_covers d (abstract_is all d h.2)))))) (λ f. one (is, tt))))
     expr_covers (extension keyword e) h called aims =
         with_ends (extension keyword e) h (head (λ is. put (expr_covers e h.0 false aims) (λ f. one (is, tt))))
     expr_covers (index e opening e2 closing) h called aims =
-        with_ends (index e opening e2 closing) h (put (join (ended (expr_covers e h.0 false false)) (ended (expr_covers e2 h.1 false false)))
+        with_ends (index e opening e2 closing) h
+        (put (join (ended (expr_covers e h.0 false false)) (ended (expr_covers e2 h.1 false false)))
         (λ f. one (f.0.1, (f.0.0.first, (f.1.1, tt)))))
     expr_covers (call e opening es closing) h called aims =
-        with_ends (call e opening es closing) h (put (put (join (ended (expr_covers e h.0 true false)) (ends (exprs_cover es h.1)))
+        with_ends (call e opening es closing) h
+        (put (put (join (ended (expr_covers e h.0 true false)) (ends (exprs_cover es h.1)))
         (λ f. f.1)) (λ f. one (f.0.1, tt)))
     expr_covers (dot e token name) h called aims =
-        with_ends (dot e token name) h (put (ended (ended (expr_covers e h.0 false aims))) (λ f. one (f.0.1, (f.1, tt))))
+        with_ends (dot e token name) h
+        (put (ended (ended (expr_covers e h.0 false aims))) (λ f. one (f.0.1, (f.1, tt))))
     expr_covers (arrow e token name) h called aims =
         with_ends (arrow e token name) h (put (put (ended (ended (expr_covers e h.0 false false)))
         (λ f. one (f.0.1, (f.0.0.first, (f.1, tt))))) (λ f. one (f.0.1, (f.1, tt))))
@@ -130,29 +129,40 @@ module _ {P : ℕ → Type 0} (all : List Lexeme) (element : (n : ℕ) → IsEle
         with_ends (post e token p) h (put (ended (expr_covers e h.0 false false)) (λ f. one (f.1, (f.0.first, tt))))
     expr_covers (compound opening ws d closing list) h called aims =
         with_ends (compound opening ws d closing list) h (head (λ is. mute (put (put (join
-        (mute (type_name_covers ws h.0 (words_cover ws (type_words all ws h.1) false) (some_declr_covers d (abstract_is all d h.2))) (one tt)) (skip (list_covers list h.3))) (λ f. one (is, tt))) (λ f. f.1)) (one tt)))
+        (mute (type_name_covers ws h.0 (words_cover ws (type_words_are all ws h.1) false)
+        (some_declr_covers d (abstract_is all d h.2))) (one tt)) (skip (list_covers list h.3))) (λ f. one (is, tt)))
+        (λ f. f.1)) (one tt)))
     expr_covers (name_use token name) h called aims =
         with_ends (name_use token name) h (head (λ is. put nothing (λ f. one (is, tt))))
-    expr_covers (number_use token) h called aims = with_ends (number_use token) h (head (λ is. put nothing (λ f. one (is, tt))))
-    expr_covers (char_use token) h called aims = with_ends (char_use token) h (head (λ is. put nothing (λ f. one (is, tt))))
+    expr_covers (number_use token) h called aims =
+        with_ends (number_use token) h (head (λ is. put nothing (λ f. one (is, tt))))
+    expr_covers (char_use token) h called aims =
+        with_ends (char_use token) h (head (λ is. put nothing (λ f. one (is, tt))))
     expr_covers (text_use texts) h called aims = with_ends (text_use texts) h (texts_cover texts h)
     expr_covers (paren opening e closing) h called aims =
         with_ends (paren opening e closing) h (head (λ is. put (ends (expr_covers e h false aims)) (λ f. one (is, tt))))
     expr_covers (statement_expr opening opening2 items closing closing2) h called aims =
-        with_ends (statement_expr opening opening2 items closing closing2) h (head (λ is. put (scope_covers (skip (ends (ends
+        with_ends (statement_expr opening opening2 items closing closing2) h
+        (head (λ is. put (scope_covers (skip (ends (ends
         (block_items_cover items h.0 true))))) (λ f. one (is, tt))))
     expr_covers (va_arg keyword opening e separator ws d closing) h called aims =
-        with_ends (va_arg keyword opening e separator ws d closing) h (head (λ is. put (skip (join (expr_covers e h.0 false false)
-        (skip (ended (type_name_covers ws h.1 (words_cover ws (type_words all ws h.2) false) (some_declr_covers d (abstract_is all d h.3))))))) (λ f. one (is, (f.1.1, tt)))))
+        with_ends (va_arg keyword opening e separator ws d closing) h
+        (head (λ is. put (skip (join (expr_covers e h.0 false false)
+        (skip (ended (type_name_covers ws h.1 (words_cover ws (type_words_are all ws h.2) false)
+        (some_declr_covers d (abstract_is all d h.3))))))) (λ f. one (is, (f.1.1, tt)))))
     expr_covers (va_start keyword opening e separator e2 closing) h called aims =
-        with_ends (va_start keyword opening e separator e2 closing) h (head (λ is. put (skip (join (expr_covers e h.0 false false)
+        with_ends (va_start keyword opening e separator e2 closing) h
+        (head (λ is. put (skip (join (expr_covers e h.0 false false)
         (skip (ended (expr_covers e2 h.1 false false))))) (λ f. one (is, (f.1.1, tt)))))
     expr_covers (va_copy keyword opening e separator e2 closing) h called aims =
-        with_ends (va_copy keyword opening e separator e2 closing) h (head (λ is. put (skip (join (expr_covers e h.0 false false)
+        with_ends (va_copy keyword opening e separator e2 closing) h
+        (head (λ is. put (skip (join (expr_covers e h.0 false false)
         (skip (ended (expr_covers e2 h.1 false false))))) (λ f. one (is, (f.1.1, tt)))))
     expr_covers (offset keyword opening ws d separator name steps closing) h called aims =
-        with_ends (offset keyword opening ws d separator name steps closing) h (head (λ is. put (skip (join (put (ended (ends
-        (set (one tt) (type_name_covers ws h.0 (words_cover ws (type_words all ws h.1) false) (some_declr_covers d (abstract_is all d h.2)))))) (λ f. one (f.1, tt))) (ends (steps_cover steps h.3))))
+        with_ends (offset keyword opening ws d separator name steps closing) h
+        (head (λ is. put (skip (join (put (ended (ends
+        (set (one tt) (type_name_covers ws h.0 (words_cover ws (type_words_are all ws h.1) false)
+        (some_declr_covers d (abstract_is all d h.2)))))) (λ f. one (f.1, tt))) (ends (steps_cover steps h.3))))
         (λ f. one (is, tt))))
     expr_covers (complex_part keyword e) h called aims =
         with_ends (complex_part keyword e) h (head (λ is. put (expr_covers e h.0 false aims) (λ f. one (is, tt))))
@@ -160,8 +170,9 @@ module _ {P : ℕ → Type 0} (all : List Lexeme) (element : (n : ℕ) → IsEle
         with_ends (label_use token name) h (head (λ is. skip (put nothing (λ f. one (is, tt)))))
     expr_covers (compat keyword opening ws d separator ws2 d2 closing) h called aims =
         with_ends (compat keyword opening ws d separator ws2 d2 closing) h (head (λ is. put (skip (join
-        (set (one tt) (ends (type_name_covers ws h.0 (words_cover ws (type_words all ws h.1) false)
-        (some_declr_covers d (abstract_is all d h.2))))) (ends (type_name_covers ws2 h.3 (words_cover ws2 (type_words all ws2 h.4) false)
+        (set (one tt) (ends (type_name_covers ws h.0 (words_cover ws (type_words_are all ws h.1) false)
+        (some_declr_covers d (abstract_is all d h.2)))))
+        (ends (type_name_covers ws2 h.3 (words_cover ws2 (type_words_are all ws2 h.4) false)
         (some_declr_covers d2 (abstract_is all d2 h.5)))))) (λ f. one (is, tt))))
     expr_covers (choose keyword opening e separator e2 separator2 e3 closing) h called aims =
         with_ends (choose keyword opening e separator e2 separator2 e3 closing) h (head (λ is. put (skip (join (join
@@ -179,7 +190,7 @@ module _ {P : ℕ → Type 0} (all : List Lexeme) (element : (n : ℕ) → IsEle
     assoc_covers : (x : Assoc) → IsAssoc all x → {k : List Lexeme}
         → Covers P (Unit {0}) (assoc_tape x) (assoc_text all x k) k
     assoc_covers (typed_assoc ws d colon e) h =
-        done (join (ends (type_name_covers ws h.0 (words_cover ws (type_words all ws h.1) false)
+        done (join (ends (type_name_covers ws h.0 (words_cover ws (type_words_are all ws h.1) false)
         (some_declr_covers d (abstract_is all d h.2)))) (expr_covers e h.3 false false))
     assoc_covers (default_assoc keyword colon e) h = skip (skip (done (set (one tt) (expr_covers e h.0 false false))))
 
@@ -206,13 +217,15 @@ module _ {P : ℕ → Type 0} (all : List Lexeme) (element : (n : ℕ) → IsEle
         Covers P (Holds P (arguments es)) (exprs_tape es) (exprs_text all es k) k
     exprs_cover no_exprs h = none
     exprs_cover (more_exprs e es) h =
-        so (join (expr_covers e h.0 false false) (other_exprs_cover es h.2)) (λ f. both (one (f.0.first, (f.0.last, tt))) f.1)
+        so (join (expr_covers e h.0 false false) (other_exprs_cover es h.2))
+        (λ f. both (one (f.0.first, (f.0.last, tt))) f.1)
 
     other_exprs_cover : (es : Exprs) → AreArguments all es → {k : List Lexeme} →
         Covers P (Holds P (arguments es)) (exprs_tape es) (other_exprs_text all es k) k
     other_exprs_cover no_exprs h = none
     other_exprs_cover (more_exprs e es) h =
-        skip (so (join (expr_covers e h.0 false false) (other_exprs_cover es h.2)) (λ f. both (one (f.0.first, (f.0.last, tt))) f.1))
+        skip (so (join (expr_covers e h.0 false false) (other_exprs_cover es h.2))
+        (λ f. both (one (f.0.first, (f.0.last, tt))) f.1))
 
     dropped_covers : (e : SomeExpr) → IsSomeExpr all e → {k : List Lexeme} →
         Covers P (Unit {0}) (dropped_tape e) (some_expr_text all e k) k
@@ -227,7 +240,8 @@ module _ {P : ℕ → Type 0} (all : List Lexeme) (element : (n : ℕ) → IsEle
     step_covers : (d : Desig) → IsStep all d → {k : List Lexeme}
         → Covers P (Unit {0}) (step_tape d) (desig_text all d k) k
     step_covers (member_desig before name) h = skip (head (λ is. put nothing (λ f. one (is, tt))))
-    step_covers (index_desig opening e closing) h = head (λ is. done (put (ends (expr_covers e h false false)) (λ f. one (is, tt))))
+    step_covers (index_desig opening e closing) h =
+        head (λ is. done (put (ends (expr_covers e h false false)) (λ f. one (is, tt))))
     step_covers (range_desig opening e dots e2 closing) h = absurd h
     step_covers (old_desig name colon) h = absurd h
 
@@ -253,12 +267,15 @@ module _ {P : ℕ → Type 0} (all : List Lexeme) (element : (n : ℕ) → IsEle
     word_covers (qualifier q) h is_alone =
         so (put (qual_at all element q h.0) (λ f. one (f, tt))) (λ f. record { begins = f; unnamed = empty })
     word_covers (basic word) h is_alone =
-        head (λ is. so (put nothing (λ f. void_ops P (is_void word.keyword))) (λ f. record { begins = is; unnamed = empty }))
+        head (λ is.
+        so (put nothing (λ f. void_ops P (is_void word.keyword))) (λ f. record { begins = is; unnamed = empty }))
     word_covers (struct_type word attrs None body) h is_alone =
-        head (λ is. so (attrs_skip all attrs (struct_covers body h.3 is_alone (tag_kind word.keyword) word.token None is tt))
+        head (λ is.
+        so (attrs_skip all attrs (struct_covers body h.3 is_alone (tag_kind word.keyword) word.token None is tt))
         (λ f. record { begins = is; unnamed = one (is, tt) }))
     word_covers (struct_type word attrs (Some tag) body) h is_alone =
-        head (λ is. so (attrs_skip all attrs (head (λ it. struct_covers body h.3 is_alone (tag_kind word.keyword) word.token
+        head (λ is.
+        so (attrs_skip all attrs (head (λ it. struct_covers body h.3 is_alone (tag_kind word.keyword) word.token
         (Some tag) is it))) (λ f. record { begins = is; unnamed = empty }))
     word_covers (enum_type e) h is_alone = enum_covers e h
     word_covers (typedef_name name) h is_alone =
@@ -266,10 +283,12 @@ module _ {P : ℕ → Type 0} (all : List Lexeme) (element : (n : ℕ) → IsEle
     word_covers (attribute attr) h is_alone =
         head (λ is. so (group_skip all attr.group nothing) (λ f. record { begins = is; unnamed = empty }))
     word_covers (typeof_value keyword opening e closing) h is_alone =
-        head (λ is. so (mute (put (skip (set (both (one tt) (one tt)) (ended (expr_covers e h false false)))) (λ f. one (f.1, tt)))
+        head (λ is.
+        so (mute (put (skip (set (both (one tt) (one tt)) (ended (expr_covers e h false false)))) (λ f. one (f.1, tt)))
         (one tt)) (λ f. record { begins = is; unnamed = empty }))
     word_covers (typeof_type word opening ws d closing) h is_alone =
-        head (λ is. so (mute (skip (set (one tt) (ends (type_name_covers ws h.1 (words_cover ws (type_words all ws h.2) false)
+        head (λ is.
+        so (mute (skip (set (one tt) (ends (type_name_covers ws h.1 (words_cover ws (type_words_are all ws h.2) false)
         (some_declr_covers d (abstract_is all d h.3)))))) (one tt))
         (λ f. record { begins = is; unnamed = empty }))
     word_covers (align attr) h is_alone =
@@ -303,7 +322,8 @@ module _ {P : ℕ → Type 0} (all : List Lexeme) (element : (n : ℕ) → IsEle
         Covers P (Unit {0}) (specs_with (words_tape false ws) ++ members_tape ws ds) t k
     members_cover no_mem_declrs h ws p = done (put (mute p (one tt)) (λ f. f.unnamed))
     members_cover (more_mem_declrs attrs d ds) h ws p =
-        done (join (mute p (one tt)) (attrs_skip all attrs (join (mem_declr_covers d h.1) (other_mem_declrs_cover ds h.2))))
+        done
+        (join (mute p (one tt)) (attrs_skip all attrs (join (mem_declr_covers d h.1) (other_mem_declrs_cover ds h.2))))
 
     other_mem_declrs_cover : (ds : MemDeclrs) → AreMemDeclrs all ds → {k : List Lexeme} →
         Covers P (Unit {0}) (mem_declrs_tape ds) (other_mem_declrs_text all ds k) k
@@ -314,7 +334,8 @@ module _ {P : ℕ → Type 0} (all : List Lexeme) (element : (n : ℕ) → IsEle
     mem_declr_covers : (d : MemDeclr) → IsMemDeclr all d → {k : List Lexeme} →
         Covers P (Unit {0}) (mem_declr_tape d) (mem_declr_text all d k) k
     mem_declr_covers (named d width attrs) h =
-        done (past (join (mute (put (contents_cover d h.0 false) (λ f. f)) (one tt)) (some_value_covers width h.2 Colon))
+        done (past
+        (join (mute (put (contents_cover d h.0 false) (λ f. f)) (one tt)) (some_value_covers width h.2 Colon))
         (attrs_skip all attrs nothing))
     mem_declr_covers (unnamed colon e attrs) h =
         done (quiet_covers (skip (past (expr_covers e h.0 false false) (attrs_skip all attrs nothing))))
@@ -332,7 +353,8 @@ module _ {P : ℕ → Type 0} (all : List Lexeme) (element : (n : ℕ) → IsEle
 
     enum_body_covers : (body : SomeEnumBody) → IsEnumBody all body → (keyword : ℕ) (tag : Option Identifier)
         → P keyword →
-        SomeAt P tag → {k : List Lexeme} → Covers P (Unit {0}) (enum_body_tape keyword tag body) (some_enum_body_text all body k) k
+        SomeAt P tag → {k : List Lexeme}
+        → Covers P (Unit {0}) (enum_body_tape keyword tag body) (some_enum_body_text all body k) k
     enum_body_covers no_enum_body h keyword tag is it = put nothing (λ f. tag_ops P false tags.Enum tag it)
     enum_body_covers (some_enum_body opening es last closing) h keyword tag is it =
         mute (set (body_ops P tags.Enum keyword tag is it) (skip (past (enumerators_cover es h.1)
@@ -349,7 +371,8 @@ module _ {P : ℕ → Type 0} (all : List Lexeme) (element : (n : ℕ) → IsEle
         Covers P (Unit {0}) (enumerators_tape es) (other_enumerators_text all es k) k
     other_enumerators_cover no_enumerators h = nothing
     other_enumerators_cover (more_enumerators name attrs value es) h =
-        skip (head (λ is. done (join (put (attrs_skip all attrs (some_value_covers value h.1 Equal)) (λ f. one (is, tt)))
+        skip (head (λ is.
+        done (join (put (attrs_skip all attrs (some_value_covers value h.1 Equal)) (λ f. one (is, tt)))
         (other_enumerators_cover es h.2))))
 
     -- declarators, with the ops of their pieces
@@ -378,13 +401,15 @@ module _ {P : ℕ → Type 0} (all : List Lexeme) (element : (n : ℕ) → IsEle
     contents_cover (abs_pointer star words d) h is_own =
         skip (bind (pointer_words_at all element words h.0) (λ o. so (some_contents_cover d (abstract_is all d h.1))
         (λ f. both (both o (one tt)) f)))
-    contents_cover (abs_paren opening attrs d closing) h is_own = skip (attrs_skip all attrs (ends (contents_cover d h.1 is_own)))
+    contents_cover (abs_paren opening attrs d closing) h is_own =
+        skip (attrs_skip all attrs (ends (contents_cover d h.1 is_own)))
     contents_cover (abs_array d opening words size closing) h is_own =
         so (join (some_contents_cover d (direct_is all d h.0)) (skip (bind (array_words_at all element words h.1)
         (λ o. so (ends (some_size_covers size h.2)) (λ f. o)))))
         (λ f. both (both f.1 (one tt)) f.0)
     contents_cover (abs_params d opening ps dots closing) h is_own =
-        so (join (some_contents_cover d (direct_is all d h.0)) (skip (trail (params_cover false (says_none ps) (params_go ps h.1))
+        so (join (some_contents_cover d (direct_is all d h.0))
+        (skip (trail (params_cover false (says_none ps) (params_go ps h.1))
         (ends (dots_at all element ps dots h.2)))))
         (λ f. both (both f.1.1 (one tt)) f.0)
     contents_cover (identifiers d opening names closing) h is_own =
@@ -438,7 +463,8 @@ module _ {P : ℕ → Type 0} (all : List Lexeme) (element : (n : ℕ) → IsEle
         Covers P (Holds P (rule_of_items items)) (init_items_tape items) (init_items_text all items k) k
     init_items_cover no_init_items h = none
     init_items_cover (more_init_items ds equal i items) h =
-        so (join (join (indices_cover ds h.0) (some_sign_skip Equal equal (init_covers i h.2))) (other_init_items_cover items h.3))
+        so (join (join (indices_cover ds h.0) (some_sign_skip Equal equal (init_covers i h.2)))
+        (other_init_items_cover items h.3))
         (λ f. both (both f.0.0 f.0.1) f.1)
 
     other_init_items_cover : (items : InitItems) → AreInitItems all items → {k : List Lexeme} →
@@ -472,7 +498,8 @@ module _ {P : ℕ → Type 0} (all : List Lexeme) (element : (n : ℕ) → IsEle
 
     declared_init_covers : (i : Init) → IsInit all i → {k : List Lexeme} →
         Covers P (Unit {0}) (declared_init_tape i) (init_text all i k) k
-    declared_init_covers (init_value e) h = done (put (expr_covers e h.0 false false) (λ f. one (f.first, (f.last, tt))))
+    declared_init_covers (init_value e) h =
+        done (put (expr_covers e h.0 false false) (λ f. one (f.first, (f.last, tt))))
     declared_init_covers (init_braced list) h =
         done (mute (put (mute (set (one tt) (list_covers list h)) (one tt)) (λ f. f)) (one tt))
 
@@ -495,29 +522,34 @@ module _ {P : ℕ → Type 0} (all : List Lexeme) (element : (n : ℕ) → IsEle
     declaration_covers : (d : Declaration) → IsDeclaration all d → {k : List Lexeme} →
         Covers P (Unit {0}) (declaration_tape d) (declaration_text all d k) k
     declaration_covers (declaration extensions ws ds semi) h =
-        extensions_skip extensions (done (mute (ends (join (mute (words_cover ws h.1 _) (one tt)) (either (are_auto ws ds)
-        (known (init_declrs_cover ds h.3) (λ is. auto_declrs_cover semi ds is h.3)) (init_declrs_cover ds h.3)))) (one tt)))
+        extensions_skip extensions
+        (done (mute (ends (join (mute (words_cover ws h.1 _) (one tt)) (either (are_auto ws ds)
+        (known (init_declrs_cover ds h.3) (λ is. auto_declrs_cover semi ds is h.3)) (init_declrs_cover ds h.3))))
+        (one tt)))
 
     -- behind `__auto_type`: the `;` is a token of the tape
     auto_declrs_cover : (semi : ℕ) (ds : InitDeclrs) → P semi → AreInitDeclrs all ds → {k : List Lexeme} →
         Covers P (Unit {0}) (auto_declrs_tape semi ds) (init_declrs_text all ds k) k
     auto_declrs_cover semi no_init_declrs is h = nothing
     auto_declrs_cover semi (more_init_declrs attrs d asm_label attrs2 i ds) is h =
-        attrs_skip all attrs (done (join (join (contents_cover d h.1 false) (label_skip all asm_label (attrs_skip all attrs2
+        attrs_skip all attrs
+        (done (join (join (contents_cover d h.1 false) (label_skip all asm_label (attrs_skip all attrs2
         (auto_init_covers semi i is h.5)))) (other_auto_declrs_cover semi ds is h.6)))
 
     other_auto_declrs_cover : (semi : ℕ) (ds : InitDeclrs) → P semi → AreInitDeclrs all ds → {k : List Lexeme} →
         Covers P (Unit {0}) (auto_declrs_tape semi ds) (other_init_declrs_text all ds k) k
     other_auto_declrs_cover semi no_init_declrs is h = nothing
     other_auto_declrs_cover semi (more_init_declrs attrs d asm_label attrs2 i ds) is h =
-        skip (attrs_skip all attrs (done (join (join (contents_cover d h.1 false) (label_skip all asm_label (attrs_skip all attrs2
+        skip (attrs_skip all attrs
+        (done (join (join (contents_cover d h.1 false) (label_skip all asm_label (attrs_skip all attrs2
         (auto_init_covers semi i is h.5)))) (other_auto_declrs_cover semi ds is h.6))))
 
     auto_init_covers : (semi : ℕ) (i : SomeInit) → P semi → IsSomeInit all i → {k : List Lexeme} →
         Covers P (Unit {0}) (auto_init_tape semi i) (some_init_text all i k) k
     auto_init_covers semi no_init is h = nothing
     auto_init_covers semi (some_init equal (init_value e)) is h =
-        skip (done (put (mute (set (one tt) (expr_covers e h.0 false false)) (one (is, tt))) (λ f. one (f.first, (f.last, tt)))))
+        skip (done
+        (put (mute (set (one tt) (expr_covers e h.0 false false)) (one (is, tt))) (λ f. one (f.first, (f.last, tt)))))
     auto_init_covers semi (some_init equal (init_braced list)) is h = skip (done (as_fact (list_covers list h)))
 
     decl_covers : (d : Decl) → IsDecl all d → {k : List Lexeme}
@@ -565,7 +597,8 @@ module _ {P : ℕ → Type 0} (all : List Lexeme) (element : (n : ℕ) → IsEle
     stmt_covers (continue_stmt keyword semi) h kept = skip (skip nothing)
     stmt_covers (break_stmt keyword semi) h kept = skip (skip nothing)
     stmt_covers (return_stmt keyword e semi) h kept = head (λ is. return_covers e h keyword semi is (ended nothing))
-    stmt_covers (asm_stmt keyword words group semi) h kept = skip (words_skip words (group_skip all group (skip nothing)))
+    stmt_covers (asm_stmt keyword words group semi) h kept =
+        skip (words_skip words (group_skip all group (skip nothing)))
     stmt_covers (case_range keyword e dots e2 colon s) h kept =
         skip (done (join (join (quiet_covers (ends (expr_covers e h.0 false false))) (quiet_covers (ends
         (expr_covers e2 h.2 false false)))) (stmt_covers s h.4 false)))
@@ -583,7 +616,8 @@ module _ {P : ℕ → Type 0} (all : List Lexeme) (element : (n : ℕ) → IsEle
     for_start_covers (start_value e semi) h = ends (dropped_covers e h)
 
     return_covers : (e : SomeExpr) → IsSomeExpr all e → (keyword semi : ℕ) → P keyword → {m k : List Lexeme} →
-        Covers P (Unit {0} × P semi) [] m k → Covers P (Unit {0}) (return_tape keyword e semi) (some_expr_text all e m) k
+        Covers P (Unit {0} × P semi) [] m k
+        → Covers P (Unit {0}) (return_tape keyword e semi) (some_expr_text all e m) k
     return_covers no_expr h keyword semi is p = done p
     return_covers (some_expr e) h keyword semi is p =
         done (put (trail (expr_covers e h false false) p) (λ f. one (is, (f.1.1, tt))))
@@ -608,7 +642,8 @@ module _ {P : ℕ → Type 0} (all : List Lexeme) (element : (n : ℕ) → IsEle
       Covers P (Unit {0}) (old_declaration_tape d) (declaration_text all d k) k
   old_declaration_covers (declaration extensions ws ds semi) h =
       extensions_skip extensions (done (mute (ends (join (mute (words_cover ws h.1 _) (one tt)) (either (are_auto ws ds)
-      (known (init_declrs_cover ds h.3) (λ is. auto_declrs_cover semi ds is h.3)) (old_declrs_cover ds h.3)))) (one tt)))
+      (known (init_declrs_cover ds h.3) (λ is. auto_declrs_cover semi ds is h.3)) (old_declrs_cover ds h.3))))
+      (one tt)))
 
   old_declarations_cover : (ds : List Declaration) → All (IsDeclaration all) ds → {k : List Lexeme} →
       Covers P (Unit {0}) (old_declarations_tape ds) (declarations_text all ds k) k
@@ -632,7 +667,8 @@ module _ {P : ℕ → Type 0} (all : List Lexeme) (element : (n : ℕ) → IsEle
   old_contents_cover : (ds : List Declaration) (d : Declr) → IsDeclr all d → {k : List Lexeme} →
       Covers P (OldOnes ds d) [] (declr_text all d k) k
   old_contents_cover ds (identifiers d opening names closing) h =
-      so (trail (as_fact (contents_cover d h.0 false)) (skip (so (trail (names_cover names) (skip nothing)) (λ f. f.0))))
+      so
+      (trail (as_fact (contents_cover d h.0 false)) (skip (so (trail (names_cover names) (skip nothing)) (λ f. f.0))))
       (λ f. record {
         pieces_hold = both (one tt) f.0.0;
         contents_hold = λ g. both (both (both (both f.0.1 (one tt)) f.1) g) (one tt);
@@ -645,13 +681,15 @@ module _ {P : ℕ → Type 0} (all : List Lexeme) (element : (n : ℕ) → IsEle
       (λ f. record { pieces_hold = f.pieces_hold; contents_hold = f.contents_hold })))
   old_contents_cover ds (array d opening words size closing) h =
       so (trail {G = Holds P (array_words_tape words) × Holds P (some_size_tape size)} (old_contents_cover ds d h.0)
-      (skip (bind (array_words_at all element words h.3) (λ o. so (ends (as_fact (some_size_covers size h.4))) (λ f. (o, f.1))))))
+      (skip (bind (array_words_at all element words h.3)
+      (λ o. so (ends (as_fact (some_size_covers size h.4))) (λ f. (o, f.1))))))
       (λ f. record {
         pieces_hold = both (both f.1.0 (one tt)) f.0.pieces_hold;
         contents_hold = λ g. both (f.0.contents_hold g) f.1.1;
       })
   old_contents_cover ds (params d opening ps dots closing) h =
-      so (trail (old_contents_cover ds d h.0) (skip (trail (as_fact (params_cover false (says_none ps) (params_go ps h.3)))
+      so (trail (old_contents_cover ds d h.0)
+      (skip (trail (as_fact (params_cover false (says_none ps) (params_go ps h.3)))
       (ends (dots_at all element ps dots h.4)))))
       (λ f. record {
         pieces_hold = both (both f.1.1 (one tt)) f.0.pieces_hold;
@@ -661,17 +699,21 @@ module _ {P : ℕ → Type 0} (all : List Lexeme) (element : (n : ℕ) → IsEle
   old_contents_cover ds (base_name token) h = plain_ones ds (base_name token) refl h
   old_contents_cover ds (abs_pointer star words d) h = plain_ones ds (abs_pointer star words d) refl h
   old_contents_cover ds (abs_paren opening attrs d closing) h = plain_ones ds (abs_paren opening attrs d closing) refl h
-  old_contents_cover ds (abs_array d opening words size closing) h = plain_ones ds (abs_array d opening words size closing) refl h
-  old_contents_cover ds (abs_params d opening ps dots closing) h = plain_ones ds (abs_params d opening ps dots closing) refl h
+  old_contents_cover ds (abs_array d opening words size closing) h =
+      plain_ones ds (abs_array d opening words size closing) refl h
+  old_contents_cover ds (abs_params d opening ps dots closing) h =
+      plain_ones ds (abs_params d opening ps dots closing) refl h
 
   item_covers : (item : Item) → IsItem all item → {k : List Lexeme} →
       Covers P (Unit {0}) (item_tape item) (item_text all item k) k
   item_covers (function_item extensions ws d attrs opening items closing) h =
-      extensions_skip extensions (done (mute (mute (join (mute (mute (put (join (mute (words_cover ws h.1 false) (one tt))
+      extensions_skip extensions
+      (done (mute (mute (join (mute (mute (put (join (mute (words_cover ws h.1 false) (one tt))
       (contents_cover d h.4 true)) (λ f. f.1)) (one tt)) (one tt))
       (attrs_skip all attrs (skip (ends (block_items_cover items h.7 false))))) (one tt)) (one tt)))
   item_covers (old_function_item extensions ws d attrs ds opening items closing) h =
-      extensions_skip extensions (done (mute (mute (join (mute (mute (put (join (mute (words_cover ws h.1 false) (one tt))
+      extensions_skip extensions
+      (done (mute (mute (join (mute (mute (put (join (mute (words_cover ws h.1 false) (one tt))
       (put (trail (old_contents_cover ds d h.4) (attrs_skip all attrs (as_fact (old_declarations_cover ds h.7))))
       (λ f. f.0.contents_hold f.1.1))) (λ f. f.1.0.pieces_hold)) (one tt)) (one tt))
       (skip (ends (block_items_cover items h.8 false)))) (one tt)) (one tt)))

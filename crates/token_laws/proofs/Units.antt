@@ -185,7 +185,8 @@ module _ (firsts : FirstBegins) (lasts : LastEnds) (S : Span → Type 0) where
       AllOps (λ n. AtWord S (place it.spelling n)) (tape_of it.items)
   own_tape it all read f =
       ops_hold (λ n. IsTokenOf n all) (λ n. AtWord S (place it.spelling n))
-      (λ n h. f (word_span (place it.spelling n)) (stands it all n n h h)) (tape_of it.items) (tape_tokens firsts lasts it all read)
+      (λ n h. f (word_span (place it.spelling n)) (stands it all n n h h)) (tape_of it.items)
+      (tape_tokens firsts lasts it all read)
 
   tape_sound : (it : Source) (all : List Lexeme) → IsReadFrom it all
       → ((where_ : Span) → StandsAt it all where_ → S where_) →
@@ -261,7 +262,8 @@ spans_have_tokens firsts lasts names found p texts read c there =
     let all = given p.sources texts in
     let known = names_sound firsts lasts S names p.sources texts read all in
     stands_there S (system_of p).constraints c
-    (subst (Stand S) (found p (sound_of firsts lasts S p.sources texts read)) (rows_there firsts lasts S p known p.sources texts read all)) there
+    (subst (Stand S) (found p (sound_of firsts lasts S p.sources texts read))
+    (rows_there firsts lasts S p known p.sources texts read all)) there
 
 -- the place of each call site of a program that was read has its token in the text of its unit
 pub sites_have_tokens : FirstBegins → LastEnds → NamesOfTapes → StartsOfProgramAreFound → SitesHaveTokens
@@ -271,7 +273,8 @@ sites_have_tokens firsts lasts names found p texts read site there =
     let known = names_sound firsts lasts S names p.sources texts read all in
     site_there (AtWord S) (system_of p).sites site
     (sites_at (AtWord S) (functions_of (names_of p.sources)) (starts_of (has_access p.lattices) p.sources)
-    (subst (StartsAt (AtWord S)) (found (has_access p.lattices) p.sources (sound_of firsts lasts S p.sources texts read))
+    (subst (StartsAt (AtWord S))
+    (found (has_access p.lattices) p.sources (sound_of firsts lasts S p.sources texts read))
     (starts_there firsts lasts S (has_access p.lattices) (names_of p.sources) known p.sources texts read all))) there
 
 -- the place of each fault of sources that were read has its token in the text of its unit

@@ -2,16 +2,14 @@
 -- sources.
 --
 -- The sources are well formed of some tokens, scopes of names aside, and these are numbered by their places, as the
--- tokens that a
--- lexer gives are. So they are read in the sense of `IsRead` (`row_laws/specs/KeyLaws/Differing.antt`), and a little
--- more: that
--- asks that no two tokens have one number, and a tree has of a `$` word only its place (`c_tree/specs/Text.antt`,
--- `qual_text`),
--- which need then be no token's number. Where the units of the sources differ too, a span names its source.
+-- tokens that a lexer gives are. So they are read in the sense of `IsRead` (`row_laws/specs/KeyLaws/Differing.antt`),
+-- and a little more: that asks that no two tokens have one number, and a tree has of a `$` word only its place
+-- (`c_tree/specs/Text.antt`, `qual_text`), which need then be no token's number. Where the units of the sources differ
+-- too, a span names its source.
 --
 -- So what the tool says of a span or a fault where there is no such unit or no such token
--- (`cqual_tool/specs/Syntax.antt`,
--- `token_line`; `cqual_tool/specs/Shapes.antt`, `in_unit`) is never met for sources that were read.
+-- (`cqual_tool/specs/Syntax.antt`, `token_line`; `cqual_tool/specs/Shapes.antt`, `in_unit`) is never met for sources
+-- that were read.
 use Rattle.std.specs.Prelude.{◌≡◌, ℕ, suc, Contains, List, [], ◌∷◌, slice_get, Some, ◌⊎◌}
 use Rattle.qual_base.specs.declared.places.Span.{Span}
 use Rattle.flow_graph.specs.declared.constraint.Constraint.{Constraint}

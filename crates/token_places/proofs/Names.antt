@@ -24,4 +24,6 @@ names_law keep name shrinks front stops off law =
     falls comma = behind_falls name (λ x. ends (one_more x)) (shrinks_falls name shrinks) (λ x. ends_falls (one_more x))
 
     next_law : (comma : ℕ) → Law keep (next_name name comma) any stops
-    next_law comma = mapped_law keep name one_more any stops (law_before keep name front any any stops (λ kind h. refl) (λ kind h. refl) law)
+    next_law comma =
+        mapped_law keep name one_more any stops
+        (law_before keep name front any any stops (λ kind h. refl) (λ kind h. refl) law)

@@ -37,7 +37,9 @@ asm_word_end kind h = refl
 
 -- what may follow a row, and what it may begin with
 abbrev pub Ending : (TokenKind → Bool) → (TokenKind → Bool) → (TokenKind → Bool) → Type 0
-Ending begins front stops = ((kind : TokenKind) → stops kind ≡ true → front kind ≡ true) × ((kind : TokenKind) → stops kind ≡ true → begins kind ≡ false)
+Ending begins front stops =
+    ((kind : TokenKind) → stops kind ≡ true → front kind ≡ true)
+    × ((kind : TokenKind) → stops kind ≡ true → begins kind ≡ false)
 
 module _ (keep : Bool) where
   fits_shrinks : {A : Type 0} (least room : ℕ) (read : Reader A) → Shrinks read
@@ -51,30 +53,37 @@ module _ (keep : Bool) where
       → Law keep (extensions_at room) front stops
   unfolding extensions_at
   extensions_law room front stops h =
-      repeated_law keep is_extension (λ s ts. fits 2 room ts (take_one s ts)) (fits_shrinks 2 room take_one take_shrinks) front stops h.0 h.1
-      (λ s ts is. fits_good keep 2 room take_one stops s ts (λ fit. take_good keep stops s ts (extension_end (kind_at ts) is)))
+      repeated_law keep is_extension (λ s ts. fits 2 room ts (take_one s ts))
+      (fits_shrinks 2 room take_one take_shrinks) front stops h.0 h.1
+      (λ s ts is.
+      fits_good keep 2 room take_one stops s ts (λ fit. take_good keep stops s ts (extension_end (kind_at ts) is)))
 
   pub texts_law : (front stops : TokenKind → Bool) → Ending is_text front stops → Law keep texts_at front stops
   unfolding texts_at
-  texts_law front stops h = repeated_law keep is_text take_one take_shrinks front stops h.0 h.1 (λ s ts is. take_good keep stops s ts (text_end (kind_at ts) is))
+  texts_law front stops h =
+      repeated_law keep is_text take_one take_shrinks front stops h.0 h.1
+      (λ s ts is. take_good keep stops s ts (text_end (kind_at ts) is))
 
   pub quals_law : (front stops : TokenKind → Bool) → Ending (λ kind. is_made (word_qual_of kind)) front stops
       → Law keep quals_at front stops
   unfolding quals_at
   quals_law front stops h =
-      repeated_law keep (λ kind. is_made (word_qual_of kind)) (made_at word_qual_of) (made_shrinks word_qual_of) front stops h.0 h.1 (λ s ts is. made_good keep word_qual_of stops word_qual_end s ts)
+      repeated_law keep (λ kind. is_made (word_qual_of kind)) (made_at word_qual_of)
+      (made_shrinks word_qual_of) front stops h.0 h.1 (λ s ts is. made_good keep word_qual_of stops word_qual_end s ts)
 
   pub array_words_law : (front stops : TokenKind → Bool) → Ending (λ kind. is_made (array_word_of kind)) front stops
       → Law keep array_words_at front stops
   unfolding array_words_at
   array_words_law front stops h =
-      repeated_law keep (λ kind. is_made (array_word_of kind)) (made_at array_word_of) (made_shrinks array_word_of) front stops h.0 h.1 (λ s ts is. made_good keep array_word_of stops array_word_end s ts)
+      repeated_law keep (λ kind. is_made (array_word_of kind)) (made_at array_word_of) (made_shrinks array_word_of)
+      front stops h.0 h.1 (λ s ts is. made_good keep array_word_of stops array_word_end s ts)
 
   pub asm_words_law : (front stops : TokenKind → Bool) → Ending (λ kind. is_made (asm_word_of kind)) front stops
       → Law keep asm_words_at front stops
   unfolding asm_words_at
   asm_words_law front stops h =
-      repeated_law keep (λ kind. is_made (asm_word_of kind)) (made_at asm_word_of) (made_shrinks asm_word_of) front stops h.0 h.1 (λ s ts is. made_good keep asm_word_of stops asm_word_end s ts)
+      repeated_law keep (λ kind. is_made (asm_word_of kind)) (made_at asm_word_of)
+      (made_shrinks asm_word_of) front stops h.0 h.1 (λ s ts is. made_good keep asm_word_of stops asm_word_end s ts)
 
   pub attr_good : (stops : TokenKind → Bool) (s : HeldScopes) (ts : List Lexeme) → Good keep attr_at stops s ts
   attr_good stops s ts = good_before keep attr_at any stops s ts (λ kind h. refl) ((attr_law keep).good s ts)
@@ -83,7 +92,8 @@ module _ (keep : Bool) where
       → Law keep (attrs_at room) front stops
   unfolding attrs_at
   attrs_law room front stops h =
-      repeated_law keep is_attribute (λ s ts. fits 2 room ts (attr_at s ts)) (fits_shrinks 2 room attr_at none_tokens.attr_shrinks) front stops h.0 h.1
+      repeated_law keep is_attribute (λ s ts. fits 2 room ts (attr_at s ts))
+      (fits_shrinks 2 room attr_at none_tokens.attr_shrinks) front stops h.0 h.1
       (λ s ts is. fits_good keep 2 room attr_at stops s ts (λ fit. attr_good stops s ts))
 
   mapped_shrinks : {A B : Type 0} (read : Reader A) (make : A → B) → Shrinks read
@@ -98,17 +108,23 @@ module _ (keep : Bool) where
       → Good keep (pointer_word_at room) stops s ts
   unfolding pointer_word_at
   word_good room stops s ts =
-      if_good keep (λ s. is_attribute) (λ s ts. fits 2 room ts (behind attr_at (λ attr. ends (pointer_words.Attr attr)) s ts)) (behind (made_at qual_of) (λ qual. ends (pointer_words.Qual qual))) stops s ts
-      (λ is. fits_good keep 2 room (behind attr_at (λ attr. ends (pointer_words.Attr attr))) stops s ts (λ fit. mapped_good keep attr_at pointer_words.Attr stops s ts (attr_good stops s ts)))
-      (λ is. mapped_good keep (made_at qual_of) pointer_words.Qual stops s ts (made_good keep qual_of stops qual_end s ts))
-      (λ is. inl (λ x e. mapped_shrinks attr_at pointer_words.Attr none_tokens.attr_shrinks s ts x (fits_ok 2 room ts e).1))
+      if_good keep (λ s. is_attribute)
+      (λ s ts. fits 2 room ts (behind attr_at (λ attr. ends (pointer_words.Attr attr)) s ts))
+      (behind (made_at qual_of) (λ qual. ends (pointer_words.Qual qual))) stops s ts
+      (λ is. fits_good keep 2 room (behind attr_at (λ attr. ends (pointer_words.Attr attr))) stops s ts (λ fit.
+      mapped_good keep attr_at pointer_words.Attr stops s ts (attr_good stops s ts)))
+      (λ is. mapped_good keep (made_at qual_of) pointer_words.Qual stops s ts
+      (made_good keep qual_of stops qual_end s ts))
+      (λ is. inl (λ x e.
+      mapped_shrinks attr_at pointer_words.Attr none_tokens.attr_shrinks s ts x (fits_ok 2 room ts e).1))
       (λ is. inl (λ x e. mapped_shrinks (made_at qual_of) pointer_words.Qual (made_shrinks qual_of) s ts x e))
 
   pub pointer_words_law : (room : ℕ) (front stops : TokenKind → Bool) → Ending begins_pointer_word front stops
       → Law keep (pointer_words_at room) front stops
   unfolding pointer_words_at
   pointer_words_law room front stops h =
-      repeated_law keep begins_pointer_word (pointer_word_at room) (pointer_word_shrinks [] room) front stops h.0 h.1 (λ s ts is. word_good room stops s ts)
+      repeated_law keep begins_pointer_word (pointer_word_at room) (pointer_word_shrinks [] room) front stops h.0 h.1
+      (λ s ts is. word_good room stops s ts)
 
 semicolon_attribute : (kind : TokenKind) → is_semicolon kind ≡ true → is_attribute kind ≡ false
 semicolon_attribute (kinds.Punct Semicolon) h = refl

@@ -4,7 +4,7 @@ use Rattle.c_words.specs.declared.kinds.TokenKind.{TokenKind}
 use Rattle.c_words.specs.declared.kinds.TokenKind.TheVariants as kinds
 use Rattle.c_tree.specs.declared.lexeme.Lexeme.{Lexeme}
 use Rattle.c_units.specs.HeldScopes.{HeldScopes}
-use Rattle.c_reading.specs.declared.kinds.Fault.TheVariants.{Unexpected}
+use Rattle.c_reading.specs.declared.kinds.FaultKind.TheVariants.{Unexpected}
 use Rattle.c_reading.specs.Reading.{Reader, ends, refuses, kind_at}
 use Rattle.c_reading.specs.Tokens.{is_end, is_open_paren, is_close_paren, is_open_bracket, is_close_bracket, is_open_brace, is_close_brace, is_colon, is_dots, is_equal, is_semicolon, is_star, is_text, is_extension, is_attribute, is_asm, is_static_assert, is_while, is_else, is_comma, spelled_name, identifier_of, name_at, tag_at, made_at, is_made}
 use Rattle.c_reading.proofs.Binding.{found}
@@ -95,14 +95,10 @@ pub name_end : (kind : TokenKind) (name : ℕ) → spelled_name kind ≡ Some na
 name_end kinds.End name h = absurd cc
 name_end kind name h = refl
 
--- `[]` stands as an end where a kind is asked for, so a token that is no end is there
-pub no_token : (ts : List Lexeme) (A : Type 0) → ts ≡ [] → is_end (kind_at ts) ≡ false → A
-no_token [] A e h = absurd cc
-no_token (t ∷ ts) A e h = absurd cc
-
 module _ (keep : Bool) where
   -- One token is taken with this answer, whatever follows.
-  pub one_good : {A : Type 0} (read : Reader A) (stops : TokenKind → Bool) (s u : HeldScopes) (t : Lexeme) (ts : List Lexeme) (a : A)
+  pub one_good : {A : Type 0} (read : Reader A) (stops : TokenKind → Bool) (s u : HeldScopes) (t : Lexeme)
+      (ts : List Lexeme) (a : A)
       → ((k : List Lexeme) → read s (t ∷ k) ≡ ends a u k) →
       is_end t.kind ≡ false → Kept keep s u → Good keep read stops s (t ∷ ts)
   one_good {A} read stops s u t ts a is known kept = subst (Outcome keep read stops s (t ∷ ts)) (sym (is ts)) answer
@@ -118,23 +114,29 @@ module _ (keep : Bool) where
       }
 
   -- Nothing is taken, before a token of this kind and before each with which the reader stops.
-  pub none_good : {A : Type 0} (read : Reader A) (stops : TokenKind → Bool) (s : HeldScopes) (ts : List Lexeme) (a : A) →
+  pub none_good : {A : Type 0} (read : Reader A) (stops : TokenKind → Bool) (s : HeldScopes)
+      (ts : List Lexeme) (a : A) →
       ((k : List Lexeme) → first_kind k ≡ first_kind ts → read s k ≡ ends a s k)
       → ((k : List Lexeme) → stops (kind_at k) ≡ true → read s k ≡ ends a s k) → Good keep read stops s ts
-  none_good read stops s ts a same ended = good_as keep (ends a) read stops s ts same (inr ended) (ends_good keep a stops s ts)
+  none_good read stops s ts a same ended =
+      good_as keep (ends a) read stops s ts same (inr ended) (ends_good keep a stops s ts)
 
   -- What was read is made something of.
-  pub mapped_good : {A B : Type 0} (read : Reader A) (make : A → B) (stops : TokenKind → Bool) (s : HeldScopes) (ts : List Lexeme)
+  pub mapped_good : {A B : Type 0} (read : Reader A) (make : A → B) (stops : TokenKind → Bool) (s : HeldScopes)
+      (ts : List Lexeme)
       → Good keep read stops s ts → Good keep (behind read (λ x. ends (make x))) stops s ts
   mapped_good read make stops s ts g =
-      bind_good keep read (λ x. ends (make x)) stops stops s ts (λ tree scopes gives at. ready_ends keep (make tree) stops stops scopes at (λ kind h. h)) g
+      bind_good keep read (λ x. ends (make x)) stops stops s ts
+      (λ tree scopes gives at. ready_ends keep (make tree) stops stops scopes at (λ kind h. h)) g
       (λ x e. ends_good keep (make x.tree) stops x.scopes x.rest) (inr (λ kind h. h))
 
-  pub mapped_ready : {A B : Type 0} (read : Reader A) (make : A → B) (front stops : TokenKind → Bool) (s : HeldScopes) (at : ℕ)
+  pub mapped_ready : {A B : Type 0} (read : Reader A) (make : A → B) (front stops : TokenKind → Bool)
+      (s : HeldScopes) (at : ℕ)
       → Ready keep read front stops s at →
       Ready keep (behind read (λ x. ends (make x))) front stops s at
   mapped_ready read make front stops s at r =
-      ready_bind keep read (λ x. ends (make x)) front stops stops s at r (λ tree scopes gives at. ready_ends keep (make tree) stops stops scopes at (λ kind h. h))
+      ready_bind keep read (λ x. ends (make x)) front stops stops s at r
+      (λ tree scopes gives at. ready_ends keep (make tree) stops stops scopes at (λ kind h. h))
 
   pub mapped_law : {A B : Type 0} (read : Reader A) (make : A → B) (front stops : TokenKind → Bool)
       → Law keep read front stops → Law keep (behind read (λ x. ends (make x))) front stops
@@ -161,7 +163,9 @@ module _ (keep : Bool) where
 
       by_kind : (o : Option (ℕ → A)) → of t.kind ≡ o → Good keep (made_at of) stops s (t ∷ ts)
       by_kind None is = refused_here keep (made_at of) stops s (t ∷ ts) Unexpected (refused is)
-      by_kind (Some make) is = one_good (made_at of) stops s s t ts (make t.at) (λ k. rw is refl) (no_end t.kind (ap is_made is)) (kept_refl keep s)
+      by_kind (Some make) is =
+          one_good (made_at of) stops s s t ts (make t.at) (λ k. rw is refl) (no_end t.kind (ap is_made is))
+          (kept_refl keep s)
 
   -- A name, before whatever follows.
   pub name_good : (stops : TokenKind → Bool) (s : HeldScopes) (ts : List Lexeme) → Good keep name_at stops s ts
@@ -179,13 +183,22 @@ module _ (keep : Bool) where
 
       by_kind : (o : Option ℕ) → spelled_name t.kind ≡ o → Good keep name_at stops s (t ∷ ts)
       by_kind None is = refused_here keep name_at stops s (t ∷ ts) Unexpected (refused is)
-      by_kind (Some name) is = one_good name_at stops s s t ts (identifier_of t.at name) (λ k. rw is refl) (name_end t.kind name is) (kept_refl keep s)
+      by_kind (Some name) is =
+          one_good name_at stops s s t ts (identifier_of t.at name) (λ k. rw is refl) (name_end t.kind name is)
+          (kept_refl keep s)
 
   pub name_law : (front stops : TokenKind → Bool) → ((name : ℕ) → front (kinds.Name name) ≡ true)
       → Law keep name_at front stops
   name_law front stops named = record {
     good = λ s ts. name_good stops s ts;
-    ready = λ s at. record { more = kinds.Name 0 ∷ []; tree = identifier_of at 0; scopes = s; keeps = kept_refl keep s; begins = λ k h. named 0; reads = λ k h. refl };
+    ready = λ s at. record {
+      more = kinds.Name 0 ∷ [];
+      tree = identifier_of at 0;
+      scopes = s;
+      keeps = kept_refl keep s;
+      begins = λ k h. named 0;
+      reads = λ k h. refl;
+    };
   }
 
   -- A tag, or none.
@@ -198,6 +211,10 @@ module _ (keep : Bool) where
   tag_good stops off s ts = by_kind ts (spelled_name (kind_at ts)) refl
     where
       by_kind : (ts : List Lexeme) (o : Option ℕ) → spelled_name (kind_at ts) ≡ o → Good keep tag_at stops s ts
-      by_kind ts None is = none_good tag_at stops s ts None (λ k e. tag_none s k (ap spelled_name (kind_same k ts e) ∙ is)) (λ k h. tag_none s k (off (kind_at k) h))
+      by_kind ts None is =
+          none_good tag_at stops s ts None (λ k e. tag_none s k (ap spelled_name (kind_same k ts e) ∙ is))
+          (λ k h. tag_none s k (off (kind_at k) h))
       by_kind [] (Some name) is = absurd cc
-      by_kind (t ∷ ts) (Some name) is = one_good tag_at stops s s t ts (Some (identifier_of t.at name)) (λ k. rw is refl) (name_end t.kind name is) (kept_refl keep s)
+      by_kind (t ∷ ts) (Some name) is =
+          one_good tag_at stops s s t ts (Some (identifier_of t.at name)) (λ k. rw is refl) (name_end t.kind name is)
+          (kept_refl keep s)

@@ -1,6 +1,5 @@
 -- A group in which brackets match is completed by its open brackets, from the inside; attributes end before each token
--- that is
--- none.
+-- that is none.
 use Rattle.std.specs.Prelude.{ℕ, Bool}
 use Rattle.c_reading.specs.Tokens.{is_open_paren, is_semicolon, group_at, attrs_at}
 use Rattle.reading_steps.specs.Steps.{Law, any}

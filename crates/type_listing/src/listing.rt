@@ -17,46 +17,50 @@ use std::alloc::Global;
 
 /// Why there are no lines: a file is refused, or memory was wanting.
 #[derive(Clone, Copy, PartialEq, Eq, Debug, Drop)]
-pub enum Stop {
+pub enum Failure {
     Refused,
     NoMemory,
 }
 
-impl From<NoMemory> for Stop {
-    fn from(_: NoMemory) -> Stop {
-        Stop::NoMemory
+impl From<NoMemory> for Failure {
+    fn from(_: NoMemory) -> Failure {
+        Failure::NoMemory
     }
 }
 
 /// A well-formed source, alone.
-fn sources<'a>(alloc: Global, lattices: &Lattices, bytes: &'a [u8]) -> Result<Vec<Source<'a>>, Stop>
+fn sources<'a>(
+    alloc: Global,
+    lattices: &Lattices,
+    bytes: &'a [u8],
+) -> Result<Vec<Source<'a>>, Failure>
     requires { length bytes.now ≤ 16777216 }
     ensures { IfOk result (λ all. All IsSound (sources_of all.items)) }
 {
     let words = lattices.words(alloc)?;
     let Ok(tokens) = lex(alloc, UnitNo::new(1), false, bytes, &words) else {
-        return Err(Stop::Refused);
+        return Err(Failure::Refused);
     };
     let Ok(unit) = parse(alloc, &tokens) else {
-        return Err(Stop::Refused);
+        return Err(Failure::Refused);
     };
     match vec![in alloc; Source { unit, tokens }] {
         Ok(all) => Ok(all),
-        Err(_) => Err(Stop::NoMemory),
+        Err(_) => Err(Failure::NoMemory),
     }
 }
 
 /// The lines of a source over the lattices of a file.
-pub fn list(alloc: Global, lattice: &[u8], file: &str, bytes: &[u8]) -> Result<Vec<u8>, Stop>
+pub fn list(alloc: Global, lattice: &[u8], file: &str, bytes: &[u8]) -> Result<Vec<u8>, Failure>
     requires lattice { length lattice.now ≤ 16777216 }
     requires source { length bytes.now ≤ 16777216 }
 {
     let Ok(lattices) = read_lattices(alloc, false, lattice) else {
-        return Err(Stop::Refused);
+        return Err(Failure::Refused);
     };
     let all = sources(alloc, &lattices, bytes)?;
     let Ok(program) = resolve(alloc, &all) else {
-        return Err(Stop::Refused);
+        return Err(Failure::Refused);
     };
     let types = ExpressionTypes::of(alloc, &program)?;
     let mut out = Vec::new(alloc);

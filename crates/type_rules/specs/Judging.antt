@@ -94,7 +94,8 @@ module _ (u : Spelling) (s : Names) where
     expr_faults (label_use token name) = []
     expr_faults (compat keyword opening ws d separator ws2 d2 closing) =
         words_faults ws ++ (some_declr_faults d ++ (words_faults ws2 ++ some_declr_faults d2))
-    expr_faults (choose keyword opening e separator e2 separator2 e3 closing) = expr_faults e ++ (expr_faults e2 ++ expr_faults e3)
+    expr_faults (choose keyword opening e separator e2 separator2 e3 closing) =
+        expr_faults e ++ (expr_faults e2 ++ expr_faults e3)
     expr_faults (generic keyword opening e xs closing) = expr_faults e ++ assocs_faults xs
 
     -- the faults of the associations of a `_Generic`

@@ -252,7 +252,8 @@ module _ (u : Spelling) where
         (λ t s. with_pieced (some_declr_named d s)
         (λ ps s. with_typed (words_named false ws2 (base []) [] (type_named (place u (first_word ws)) (applied ps t) s))
         (λ t s. with_pieced (some_declr_named d2 s) (λ ps s. type_named (place u (first_word ws2)) (applied ps t) s))))
-    expr_named c (choose keyword opening e separator e2 separator2 e3 closing) s = expr_named false e3 (expr_named false e2 (expr_named false e s))
+    expr_named c (choose keyword opening e separator e2 separator2 e3 closing) s =
+        expr_named false e3 (expr_named false e2 (expr_named false e s))
     expr_named c (generic keyword opening e xs closing) s = assocs_named xs (expr_named false e s)
 
     -- the names behind the associations of a `_Generic`
@@ -333,7 +334,7 @@ module _ (u : Spelling) where
     struct_item_named n (member_semi semi) s = s
     struct_item_named n (member_assert it) s = s
 
-    -- the names behind the members of one item of a body: those without a declarator have no name
+    -- the member without a name that an item of a body without declarators is, if it is one
     pub unnamed_where : MemDeclrs → SpecWords → ℕ → CType → Names → Names
     unnamed_where no_mem_declrs ws n t s = unnamed_among u ws n t s
     unnamed_where (more_mem_declrs attrs d ds) ws n t s = s
@@ -579,7 +580,8 @@ module _ (u : Spelling) where
   old_declrs_named own words is_untagged t no_init_declrs it = it
   old_declrs_named own words is_untagged t (more_init_declrs attrs d asm_label attrs2 init ds) it =
       old_declrs_named own words false t ds (with_pieced (declr_named None d it.names)
-      (λ ps s. initialised init (old_one own words is_untagged t (declared_name d) (applied ps t) (record it { names = s })))) where
+      (λ ps s. initialised init
+      (old_one own words is_untagged t (declared_name d) (applied ps t) (record it { names = s })))) where
         initialised : SomeInit → Olds → Olds
         initialised init it = record it { names = some_init_named init it.names }
 
@@ -593,7 +595,8 @@ module _ (u : Spelling) where
   abbrev pub old_declaration_named : Option Place → Declaration → Olds → Olds
   old_declaration_named own (declaration exts ws ds semi) it =
       with_typed (words_named (is_tag_alone ws ds) ws (base []) [] it.names)
-      (λ t s. if are_auto ws ds then record it { names = auto_declrs_named (said_words ws) (has_untagged ws) semi t ds s }
+      (λ t s. if are_auto ws ds
+      then record it { names = auto_declrs_named (said_words ws) (has_untagged ws) semi t ds s }
       else old_declrs_named own (said_words ws) (has_untagged ws) t ds (record it { names = s }))
 
   -- the names behind the declarations between the parameters of an old function and its body
@@ -605,7 +608,8 @@ module _ (u : Spelling) where
   abbrev pub old_declr_named : Option Place → List Declaration → Declr → Names → Pieced
   old_declr_named own ds (identifiers d opening names closing) s =
       with_pieced (declr_named None d s)
-      (λ ps s. listed own ps (old_declarations_named own ds (identifiers_named names (record { list = []; names = enter s })))) where
+      (λ ps s. listed own ps
+      (old_declarations_named own ds (identifiers_named names (record { list = []; names = enter s })))) where
         listed : Option Place → List Piece → Olds → Pieced
         listed own ps it = record {
           pieces = ps ++ to_function (types_in (old_types it.list)) None ∷ [];
@@ -629,8 +633,10 @@ module _ (u : Spelling) where
   old_declr_named own ds (base_name token) s = declr_named None (base_name token) s
   old_declr_named own ds (abs_pointer star words d) s = declr_named None (abs_pointer star words d) s
   old_declr_named own ds (abs_paren opening attrs d closing) s = declr_named None (abs_paren opening attrs d closing) s
-  old_declr_named own ds (abs_array d opening words size closing) s = declr_named None (abs_array d opening words size closing) s
-  old_declr_named own ds (abs_params d opening ps dots closing) s = declr_named None (abs_params d opening ps dots closing) s
+  old_declr_named own ds (abs_array d opening words size closing) s =
+      declr_named None (abs_array d opening words size closing) s
+  old_declr_named own ds (abs_params d opening ps dots closing) s =
+      declr_named None (abs_params d opening ps dots closing) s
 
   -- the names behind an old function with a body, by the name that it declares
   abbrev pub old_function_by : Option Named → SpecWords → Declr → List Declaration → BlockItems → Names → Names
@@ -647,7 +653,8 @@ module _ (u : Spelling) where
   -- the names behind an item of a unit
   abbrev pub item_named : Item → Names → Names
   item_named (function_item exts ws d attrs opening items closing) s = function_by (declared_name d) ws d items s
-  item_named (old_function_item exts ws d attrs ds opening items closing) s = old_function_by (declared_name d) ws d ds items s
+  item_named (old_function_item exts ws d attrs ds opening items closing) s =
+      old_function_by (declared_name d) ws d ds items s
   item_named (decl_item d) s = decl_named d s
   item_named (asm_item keyword group semi) s = s
   item_named (semi_item semi) s = s

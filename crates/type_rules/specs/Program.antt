@@ -17,7 +17,8 @@ pub record Source : Type 0 where
 -- what is known of names behind units, by what is known before them
 abbrev pub sources_named : List Source → Names → Names
 sources_named [] s = s
-sources_named (it ∷ sources) s = sources_named sources (items_named it.spelling it.items (unit_begun it.spelling.unit s))
+sources_named (it ∷ sources) s =
+    sources_named sources (items_named it.spelling it.items (unit_begun it.spelling.unit s))
 
 -- what is known behind all units
 abbrev pub names_of : List Source → Names

@@ -57,15 +57,20 @@ module _ (u : Spelling) (s : Names) where
     shape_of (complex_part keyword e) = shape_of e
     shape_of (label_use token name) = a_value (Some (pointer [] (void [])))
     shape_of (compat keyword opening ws d separator ws2 d2 closing) = a_value (Some (base []))
-    shape_of (choose keyword opening e separator e2 separator2 e3 closing) = pick_shape (candidate (shape_of e2) (is_zero e2) ∷ candidate (shape_of e3) (is_zero e3) ∷ [])
+    shape_of (choose keyword opening e separator e2 separator2 e3 closing) =
+        pick_shape (candidate (shape_of e2) (is_zero e2) ∷ candidate (shape_of e3) (is_zero e3) ∷ [])
     shape_of (generic keyword opening e xs closing) = selected_shape (value (shape_of e)) (associations_of xs)
 
     -- the associations that a selection picks from
     pub associations_of : Assocs → List Association
     associations_of no_assocs = []
     associations_of (more_assocs (typed_assoc ws d colon e) xs) =
-        record { type = type_named_at s.type_names (place u (first_word ws)); candidate = candidate (shape_of e) (is_zero e) } ∷ associations_of xs
-    associations_of (more_assocs (default_assoc keyword colon e) xs) = record { type = None; candidate = candidate (shape_of e) (is_zero e) } ∷ associations_of xs
+        record {
+          type = type_named_at s.type_names (place u (first_word ws));
+          candidate = candidate (shape_of e) (is_zero e);
+        } ∷ associations_of xs
+    associations_of (more_assocs (default_assoc keyword colon e) xs) =
+        record { type = None; candidate = candidate (shape_of e) (is_zero e) } ∷ associations_of xs
 
     -- the value of a statement expression is that of its last item, where that is an expression
     pub items_value : BlockItems → Option CType

@@ -7,6 +7,7 @@ abbrev pub Words : Type 0
 Words = List (ℕ × ℕ)
 
 mutual
+  -- a type by its constructors, with the annotation words at each
   pub data CType : Type 0 where
     base : Words → CType
     void : Words → CType
@@ -15,6 +16,7 @@ mutual
     -- parameters, result, and the words of what stands for further arguments, where there may be some
     function : Words → CTypes → CType → Option Words → CType
 
+  -- the types of parameters
   pub data CTypes : Type 0 where
     no_types : CTypes
     more_types : CType → CTypes → CTypes
@@ -26,6 +28,7 @@ one_for (Some ws) = 1
 
 -- how many constructors there are, an ellipsis being one
 abbrev mutual
+  -- how many constructors a type has
   pub size : CType → ℕ
   size (base ws) = 1
   size (void ws) = 1
@@ -33,6 +36,7 @@ abbrev mutual
   size (pointer ws t) = 1 + size t
   size (function ws ps r e) = 1 + (sizes ps + (size r + one_for e))
 
+  -- how many constructors parameters have
   pub sizes : CTypes → ℕ
   sizes no_types = 0
   sizes (more_types t ts) = size t + sizes ts

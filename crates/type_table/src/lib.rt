@@ -9,5 +9,5 @@ mod table;
 #[cfg(test)]
 mod tests;
 
-pub use row::{Row, Shape};
+pub use row::{Shape, TypeRow};
 pub use table::TypeTable;

@@ -21,7 +21,7 @@ pub enum Shape {
 
 /// A type with the annotation words that are written on it, each by its unit and token.
 #[derive(Drop, Debug)]
-pub struct Row {
+pub struct TypeRow {
     pub shape: Shape,
     pub words: Vec<(UnitNo, TokenId)>,
     /// The words that are written on what stands for a function's further arguments.

@@ -6,7 +6,7 @@ ghost use Rattle.type_table.specs.Types.{Words, base, size, sizes, words_of, ell
 ghost use Rattle.type_table.specs.Rows.{shown, types_at, types_of, type_of, AreParts, AreMade};
 ghost use Rattle.type_table.specs.Rows.{capped, Keeps, Stands};
 
-use crate::row::{Row, Shape};
+use crate::row::{Shape, TypeRow};
 use qual_base::{NoMemory, Numbered, TokenId, TypeId, UnitNo};
 use std::alloc::Global;
 use std::marker::Model;
@@ -15,16 +15,16 @@ use std::marker::Model;
 /// itself, and types may share parts. A struct or union is named by its number; what it holds does not stand here.
 #[derive(Drop)]
 pub struct TypeTable {
-    rows: Vec<Row>,
+    rows: Vec<TypeRow>,
     /// The type of a number past the table, which `shape` lends.
     past: Shape,
 }
 
 impl Model for TypeTable {
     ghost use Rattle.std.specs.Prelude.{List};
-    ghost use Rattle.type_table.specs.declared.row.Row as row;
+    ghost use Rattle.type_table.specs.declared.row.TypeRow as row;
 
-    ghost Value = { List row.Row };
+    ghost Value = { List row.TypeRow };
 
     ghost use Rattle.type_table.specs.Held.{IsHeld};
 
@@ -67,7 +67,7 @@ impl TypeTable {
             return Err(NoMemory);
         }
         let size = self.size_of(&shape);
-        let row = Row {
+        let row = TypeRow {
             shape,
             words,
             ellipsis_words,
@@ -120,7 +120,7 @@ impl TypeTable {
     }
 
     /// The row of a type of the table.
-    fn there(&self, ty: TypeId) -> &Row
+    fn there(&self, ty: TypeId) -> &TypeRow
         requires { ty < length self.now }
         ensures there { slice_get self.now ty ≡ Some result.now }
         ensures made { AreMade [] self.now }
@@ -130,7 +130,7 @@ impl TypeTable {
 
     /// The row of a type; past the table there is none.
     #[tactic(auto, using(crate::proofs::Growing::row_stands, crate::proofs::Growing::none_is))]
-    fn row(&self, ty: TypeId) -> Option<&Row>
+    fn row(&self, ty: TypeId) -> Option<&TypeRow>
         ensures { MatchOption result (type_of self.now ty ≡ base [])
             (λ row. Stands (types_of self.now) ty row.now) }
     {

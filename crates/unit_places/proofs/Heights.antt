@@ -7,8 +7,8 @@ use Rattle.c_tree.specs.Unit.{Item, unit_height}
 use Rattle.c_specs.specs.Laws.{WholeAreMixes, MixesGoOn}
 use Rattle.c_units.specs.HeldScopes.{file_scope}
 use Rattle.c_units.specs.Units.{numbered}
-use Rattle.c_reading.specs.declared.kinds.Fault.{Fault}
-use Rattle.c_reading.specs.declared.kinds.Fault.TheVariants.{Unexpected}
+use Rattle.c_reading.specs.declared.kinds.FaultKind.{FaultKind}
+use Rattle.c_reading.specs.declared.kinds.FaultKind.TheVariants.{Unexpected}
 use Rattle.c_reading.specs.Reading.{Refusal, Found, Read}
 use Rattle.c_reading.specs.Tokens.{is_end}
 use Rattle.c_reading.specs.Items.{items_with}
@@ -38,15 +38,20 @@ unit_is wide all = refl
 module _ (formed : UnitIsWellFormed) (read_back : WellFormedIsRead) (whole_are : WholeAreMixes) (goes : MixesGoOn) where
   -- units of any height up to one
   pub items_of : (room : ℕ) → 5 ≤ room → Law false (items_with (knot room) (room - 1)) any is_end
-  items_of room five = items_law (suc room) (knot room) (knot_laws whole_are goes room) (knot_places whole_are goes room) (room - 1) (omega (arith, five)) (omega (arith, five))
+  items_of room five =
+      items_law (suc room) (knot room) (knot_laws whole_are goes room) (knot_places whole_are goes room) (room - 1)
+      (omega (arith, five)) (omega (arith, five))
 
   the_items : Law false (items_with (knot most) (most - 1)) any is_end
-  the_items = items_law 501 (knot most) (knot_laws whole_are goes most) (knot_places whole_are goes most) (most - 1) (omega arith) (omega arith)
+  the_items =
+      items_law 501 (knot most) (knot_laws whole_are goes most) (knot_places whole_are goes most) (most - 1)
+      (omega arith) (omega arith)
 
   -- what the reader of units refuses
-  refused_at : (wide : Bool) (tokens : List TokenKind) (fault : Fault) (at : ℕ) → IsEnded tokens
+  refused_at : (wide : Bool) (tokens : List TokenKind) (fault : FaultKind) (at : ℕ) → IsEnded tokens
       → Refuses wide tokens fault at → Placed wide most tokens fault at
-  refused_at wide tokens fault at ended e = placed wide most the_items tokens fault at ended (unit_is wide (numbered tokens) ∙ e)
+  refused_at wide tokens fault at ended e =
+      placed wide most the_items tokens fault at ended (unit_is wide (numbered tokens) ∙ e)
 
   pub place_is_first : PlaceIsFirst
   place_is_first wide tokens fault at ended e =
@@ -57,12 +62,16 @@ module _ (formed : UnitIsWellFormed) (read_back : WellFormedIsRead) (whole_are :
             record {
               behind = g.0;
               items = g.1.tree;
-              formed = formed wide (numbered (take at tokens ++ g.0)) (are_numbered (take at tokens ++ g.0)) g.1 (sym (unit_is wide (numbered (take at tokens ++ g.0))) ∙ g.2);
+              formed = formed wide (numbered (take at tokens ++ g.0)) (are_numbered (take at tokens ++ g.0)) g.1
+                  (sym (unit_is wide (numbered (take at tokens ++ g.0))) ∙ g.2);
             };
         none = λ u.
             let a = p.alike u.behind in
-            not_both (unit_at wide (numbered (take (at + 1) tokens ++ u.behind))) (fault, a.0) (found u.items (file_scope wide) []) (sym (unit_is wide (numbered (take (at + 1) tokens ++ u.behind))) ∙ a.1)
-            (read_back wide (numbered (take (at + 1) tokens ++ u.behind)) (are_numbered (take (at + 1) tokens ++ u.behind)) u.items u.formed);
+            not_both (unit_at wide (numbered (take (at + 1) tokens ++ u.behind))) (fault, a.0)
+            (found u.items (file_scope wide) [])
+            (sym (unit_is wide (numbered (take (at + 1) tokens ++ u.behind))) ∙ a.1)
+            (read_back wide (numbered (take (at + 1) tokens ++ u.behind))
+            (are_numbered (take (at + 1) tokens ++ u.behind)) u.items u.formed);
       }
 
   -- With more room the same token is refused with the same fault, and a unit of any height would be read with room for
@@ -79,7 +88,8 @@ module _ (formed : UnitIsWellFormed) (read_back : WellFormedIsRead) (whole_are :
       height = max most (unit_height u.items)
 
       read : unit_of height wide all ≡ done (found u.items (file_scope wide) [])
-      read = any_height wide all (are_numbered (take (at + 1) tokens ++ u.behind)) height u.items (omega arith) u.formed (omega arith)
+      read = any_height wide all (are_numbered (take (at + 1) tokens ++ u.behind)) height u.items
+          (omega arith) u.formed (omega arith)
 
       by_result : (n : ℕ) (r : Read (List Item)) → r ≡ refused (fault, n) → More r (unit_of height wide all) → ⊥
       by_result n (Ok x) is m = absurd cc
@@ -87,7 +97,8 @@ module _ (formed : UnitIsWellFormed) (read_back : WellFormedIsRead) (whole_are :
         where
           fault_is : (a b : Refusal) → refused a ≡ refused b → a.0 ≡ b.0
           fault_is a b e = cc
-      by_result n (Err d) is (inr same) = not_both (unit_of height wide all) d (found u.items (file_scope wide) []) same read
+      by_result n (Err d) is (inr same) =
+          not_both (unit_of height wide all) d (found u.items (file_scope wide) []) same read
 
       by_more : (n : ℕ) → unit_of most wide all ≡ refused (fault, n)
           → More (unit_of most wide all) (unit_of height wide all) → ⊥
@@ -95,4 +106,5 @@ module _ (formed : UnitIsWellFormed) (read_back : WellFormedIsRead) (whole_are :
 
 pub syntax_is_allowed : PlaceIsFirst → HeightAlone → FirstBadIsAllowed → SyntaxIsAllowed
 syntax_is_allowed first alone allowed wide tokens at ended e =
-    allowed wide tokens at (first wide tokens Unexpected at ended e) (alone wide tokens Unexpected at ended e (λ same. absurd cc))
+    allowed wide tokens at (first wide tokens Unexpected at ended e)
+    (alone wide tokens Unexpected at ended e (λ same. absurd cc))

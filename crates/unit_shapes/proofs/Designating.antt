@@ -21,7 +21,8 @@ module _ (all : List Aggregate) (name : ℕ) where
       → named ≡ with_member all name b → left ≡ list_left st → after ≡ within named left
       → after ≡ in_braces (with_member all name) st
   member_named st left after b named first is made gone put =
-      put ∙ ap (within named) gone ∙ ap (λ (n : Braces). within n (list_left st)) (made ∙ ap (with_member all name) first)
+      put ∙ ap (within named) gone
+      ∙ ap (λ (n : Braces). within n (list_left st)) (made ∙ ap (with_member all name) first)
       ∙ ap (λ (bs : List Braces). let it : State = record st { braces = bs } in it)
       (on st.braces (ap is_listed (sym first) ∙ is))
 

@@ -12,7 +12,8 @@ use Rattle.unit_shapes.specs.Faults.{keep}
 use Rattle.unit_shapes.proofs.Keeping.{keep_append}
 
 -- behind one op more, with its faults kept, the faults along the ops left give the best that those from the op on gave
-pub judges_on : (u : Spelling) (s : Names) (tape : List Op) (i : ℕ) (op : Op) (st after : State) (best next : Option Fault)
+pub judges_on : (u : Spelling) (s : Names) (tape : List Op) (i : ℕ) (op : Op) (st after : State)
+    (best next : Option Fault)
     → op ≡ slice_index_or tape i op → i < length tape → after ≡ step u s st op → next ≡ keep best (op_faults u s st op)
     → keep next (faults_found u s after (drop (i + 1) tape)) ≡ keep best (faults_found u s st (drop i tape))
 judges_on u s [] i op st after best next is lt made noted = absurd (omega arith)

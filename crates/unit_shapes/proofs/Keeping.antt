@@ -1,7 +1,7 @@
 -- The earliest of some faults is the first of them.
 use Rattle.std.proofs.Common.{◌≡◌, ℕ, ◌<◌, arith, nat_lt, nat_eq, Bool, true, false, ◌&&◌, ◌||◌, List, [], ◌∷◌, ◌++◌, Option, Some, None, ◌⊎◌, inl, inr, refl, sym, ◌∙◌, subst, append_assoc, append-nil, if◌then◌else◌}
 use Rattle.std.specs.List.{Contains}
-use Rattle.std.proofs.lemmas.Bool.{ltb-true, lt-ltb, eqb-true, eq-eqb}
+use Rattle.std.proofs.lemmas.Bool.{ltb-true, lt-ltb, eqb-true, eq-eqb, or_right, or_left, and_parts, or_cases, and_from}
 use Rattle.std.proofs.lemmas.List.Elements.{Contains-push, Contains-push_cases, Contains-append_left}
 use Rattle.name_rules.specs.Faults.{Fault, number, IsBefore, by_unit, by_token, by_rule, IsFirst}
 use Rattle.unit_shapes.specs.Faults.{is_lower, is_before, earlier, keep, IsFirstOf}
@@ -13,38 +13,18 @@ keep_append best (f ∷ fs) gs = keep_append (Some (earlier best f)) fs gs
 abbrev Lower : ℕ → ℕ → ℕ → ℕ → ℕ → ℕ → Type 0
 Lower a b c x y z = (a < x) ⊎ ((a ≡ x) × ((b < y) ⊎ ((b ≡ y) × (c < z))))
 
-or_true : (p q : Bool) → p || q ≡ true → (p ≡ true) ⊎ (q ≡ true)
-or_true true q is = inl refl
-or_true false q is = inr is
-
-and_true : (p q : Bool) → p && q ≡ true → (p ≡ true) × (q ≡ true)
-and_true true q is = (refl, is)
-and_true false q is = absurd cc
-
-or_left : (p q : Bool) → p ≡ true → p || q ≡ true
-or_left true q is = refl
-or_left false q is = absurd cc
-
-or_right : (p q : Bool) → q ≡ true → p || q ≡ true
-or_right true q is = refl
-or_right false q is = is
-
-and_both : (p q : Bool) → p ≡ true → q ≡ true → p && q ≡ true
-and_both true q p_is q_is = q_is
-and_both false q p_is q_is = absurd cc
-
 module _ (a b c x y z : ℕ) where
   lower_of : is_lower a b c x y z ≡ true → Lower a b c x y z
-  lower_of is = elim (or_true (nat_lt a x) (nat_eq a x && (nat_lt b y || (nat_eq b y && nat_lt c z))) is) [
+  lower_of is = elim (or_cases (nat_lt a x) (nat_eq a x && (nat_lt b y || (nat_eq b y && nat_lt c z))) is) [
     | inl lt ↦ inl (ltb-true a x lt)
     | inr h ↦
-        let both = and_true (nat_eq a x) (nat_lt b y || (nat_eq b y && nat_lt c z)) h in
+        let both = and_parts (nat_eq a x) (nat_lt b y || (nat_eq b y && nat_lt c z)) h in
         inr (
           eqb-true a x both.0,
-          elim (or_true (nat_lt b y) (nat_eq b y && nat_lt c z) both.1) [
+          elim (or_cases (nat_lt b y) (nat_eq b y && nat_lt c z) both.1) [
             | inl lt ↦ inl (ltb-true b y lt)
             | inr h2 ↦
-                let last = and_true (nat_eq b y) (nat_lt c z) h2 in
+                let last = and_parts (nat_eq b y) (nat_lt c z) h2 in
                 inr (eqb-true b y last.0, ltb-true c z last.1)
           ],
         )
@@ -54,13 +34,13 @@ module _ (a b c x y z : ℕ) where
   test_of (inl lt) = or_left (nat_lt a x) (nat_eq a x && (nat_lt b y || (nat_eq b y && nat_lt c z))) (lt-ltb a x lt)
   test_of (inr (e, inl lt)) =
       or_right (nat_lt a x) (nat_eq a x && (nat_lt b y || (nat_eq b y && nat_lt c z)))
-      (and_both (nat_eq a x) (nat_lt b y || (nat_eq b y && nat_lt c z)) (eq-eqb a x e)
+      (and_from (nat_eq a x) (nat_lt b y || (nat_eq b y && nat_lt c z)) (eq-eqb a x e)
       (or_left (nat_lt b y) (nat_eq b y && nat_lt c z) (lt-ltb b y lt)))
   test_of (inr (e, inr (d, lt))) =
       or_right (nat_lt a x) (nat_eq a x && (nat_lt b y || (nat_eq b y && nat_lt c z)))
-      (and_both (nat_eq a x) (nat_lt b y || (nat_eq b y && nat_lt c z)) (eq-eqb a x e)
+      (and_from (nat_eq a x) (nat_lt b y || (nat_eq b y && nat_lt c z)) (eq-eqb a x e)
       (or_right (nat_lt b y) (nat_eq b y && nat_lt c z)
-      (and_both (nat_eq b y) (nat_lt c z) (eq-eqb b y d) (lt-ltb c z lt))))
+      (and_from (nat_eq b y) (nat_lt c z) (eq-eqb b y d) (lt-ltb c z lt))))
 
 -- three numbers that come before three others, in order of the first that differs, come before all that those come
 -- before

@@ -1,7 +1,7 @@
 //! What initialisers do to the stacks.
 
 ghost use Rattle.std.specs.Prelude.{◌≡◌, List, OnOk};
-ghost use Rattle.type_table.specs.declared.row.Row as row;
+ghost use Rattle.type_table.specs.declared.row.TypeRow as row;
 ghost use Rattle.name_rules.specs.ShapeSteps.State as states;
 ghost use Rattle.name_rules.specs.ShapeSteps.Steps as steps;
 ghost use Rattle.expr_shapes.specs.ShapeValues.Views.{some_type};
@@ -66,7 +66,7 @@ fn begin_list(stacks: &mut Stacks, names: &Names, types: &TypeTable) -> Result<(
 
 /// Whether a list initialises something.
 fn is_listed(it: &Braces) -> bool
-    ensures { (rows : List row.Row) → result ≡ is_listed (braces_in rows it.now) }
+    ensures { (rows : List row.TypeRow) → result ≡ is_listed (braces_in rows it.now) }
 {
     match it {
         Braces::Whole(_) => false,

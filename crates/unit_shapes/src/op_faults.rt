@@ -1,7 +1,7 @@
 //! The faults of each op of a tape.
 
 ghost use Rattle.std.specs.Prelude.{◌≡◌, List};
-ghost use Rattle.type_table.specs.declared.row.Row as row;
+ghost use Rattle.type_table.specs.declared.row.TypeRow as row;
 ghost use Rattle.name_rules.specs.Spellings.{place};
 ghost use Rattle.name_rules.specs.Checks.{prefix_faults, call_faults, member_faults};
 ghost use Rattle.expr_shapes.specs.ShapeValues.Views.{some_type, some_value_type};
@@ -87,7 +87,7 @@ fn member_of_value(
 
 /// The value of what has a type.
 fn value_of(ty: &Option<TypeId>) -> Option<ValueType>
-    ensures { (rows : List row.Row) → some_value_type rows result ≡ some_type rows ty.now }
+    ensures { (rows : List row.TypeRow) → some_value_type rows result ≡ some_type rows ty.now }
 {
     match ty {
         Some(ty) => Some(ValueType::Of(*ty)),

@@ -2,7 +2,7 @@
 
 ghost use Rattle.std.specs.Prelude.{◌≡◌, ℕ, List, IfOk, slice_get};
 ghost use Rattle.std.specs.Prelude.{if◌then◌else◌};
-ghost use Rattle.type_table.specs.declared.row.Row as row;
+ghost use Rattle.type_table.specs.declared.row.TypeRow as row;
 ghost use Rattle.type_table.specs.Types.{CType};
 ghost use Rattle.type_table.specs.Rows.{type_of};
 ghost use Rattle.name_rules.specs.Values as rules;
@@ -183,7 +183,7 @@ fn named_target(
 
 /// The list of a target.
 pub(crate) fn list_of(target: &Target) -> Braces
-    ensures { (rows : List row.Row) → braces_in rows result
+    ensures { (rows : List row.TypeRow) → braces_in rows result
         ≡ steps.list_of (target_of (type_of rows) target.now) }
 {
     match target {
@@ -199,7 +199,7 @@ pub(crate) fn list_of(target: &Target) -> Braces
 
 /// What the next designator names a part of.
 pub(crate) fn designated(it: &Braces) -> Option<TypeId>
-    ensures { (rows : List row.Row) → some_type rows result
+    ensures { (rows : List row.TypeRow) → some_type rows result
         ≡ steps.designated (braces_in rows it.now) }
 {
     match it {

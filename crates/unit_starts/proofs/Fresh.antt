@@ -48,7 +48,8 @@ module _ (u : Spelling) (s : Names) (r : Rounds) (it : Around)
       → prefix_at sign b it at (shape_at 0 st) ≡ expr_op_starts u s st r (exprs.Prefix sign token last aims)
   fresh_prefix st sign token last aims b at there carries access =
       ap (λ (p : Place). prefix_at sign b it p (shape_at 0 st)) there
-      ∙ ap (λ (b : Bool). prefix_at sign b it (place u token) (shape_at 0 st)) (carries ∙ ap (λ (b : Bool). aims && b) access)
+      ∙ ap (λ (b : Bool). prefix_at sign b it (place u token) (shape_at 0 st))
+      (carries ∙ ap (λ (b : Bool). aims && b) access)
       ∙ prefix_there sign (aims && r.access) token (shape_at 0 st)
 
   pick_there : (all : List Candidate) (token : ℕ) (at : Place) → at ≡ place u token

@@ -17,7 +17,8 @@ row_among (it ∷ others) p = or_else (there it.at it.flags p) (row_among others
 -- the flags of so many associations on the stack
 abbrev pub selection_row : ℕ → State → List Bool
 selection_row count st =
-    candidate_flags (has_of_type (value_at (twice count) st) (associations count st)) (value_at (twice count) st) (associations count st)
+    candidate_flags (has_of_type (value_at (twice count) st) (associations count st)) (value_at (twice count) st)
+    (associations count st)
 
 -- a place has what it had, or else what these selections have there
 abbrev pub AddsSelections : PlaceFlags → PlaceFlags → List Selection → Type 0

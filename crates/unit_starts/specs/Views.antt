@@ -2,7 +2,7 @@
 use Rattle.std.specs.Prelude.{Bool, List, [], ◌∷◌, Option, None, Some, if◌then◌else◌}
 use Rattle.c_words.specs.declared.kinds.Punct.{Punct}
 use Rattle.c_words.specs.declared.kinds.Punct.TheVariants as signs
-use Rattle.type_table.specs.declared.row.Row.{Row}
+use Rattle.type_table.specs.declared.row.TypeRow.{TypeRow}
 use Rattle.type_table.specs.Types.{CType, base}
 use Rattle.type_table.specs.Rows.{type_of}
 use Rattle.name_rules.specs.Spellings.{Place, Spelling}
@@ -14,7 +14,7 @@ use Rattle.unit_starts.specs.declared.start.Start.{Start}
 use Rattle.unit_starts.specs.declared.start.Around.{Around}
 
 -- where a skeleton begins, with its type in place of the type's number
-abbrev pub start_in : List Row → Start → rules.Start
+abbrev pub start_in : List TypeRow → Start → rules.Start
 start_in rows it =
     record {
       at = it.at;
@@ -24,7 +24,7 @@ start_in rows it =
     }
 
 -- where a skeleton begins, where one does
-abbrev pub starts_in : List Row → Option Start → List rules.Start
+abbrev pub starts_in : List TypeRow → Option Start → List rules.Start
 starts_in rows None = []
 starts_in rows (Some it) = start_in rows it ∷ []
 

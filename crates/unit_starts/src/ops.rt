@@ -139,7 +139,7 @@ fn declarator(
     }
 }
 
-/// What begins at an op, by the stacks and by what is around before it. Constant time.
+/// What begins at an op, by the stacks and by its context. Constant time.
 pub(crate) fn start_of(
     stacks: &Stacks,
     spelling: &Spelling,

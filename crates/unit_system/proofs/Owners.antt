@@ -5,7 +5,7 @@ use Rattle.qual_base.specs.declared.places.Owner.{Owner}
 use Rattle.qual_base.specs.declared.places.Owner.TheVariants.{Nobody}
 use Rattle.flow_graph.specs.System.{System, SetsOwner, owner_of}
 use Rattle.type_table.specs.Types.{size}
-use Rattle.type_table.specs.declared.row.Row.{Row}
+use Rattle.type_table.specs.declared.row.TypeRow.{TypeRow}
 use Rattle.name_rules.specs.Spellings.{Place}
 use Rattle.row_rules.specs.Starting as rules
 use Rattle.row_rules.specs.Sites.{variables_among, owner_by, owners_among}
@@ -82,7 +82,7 @@ none_left owners n e owner is =
     let none : e - n ≡ 0 = omega arith in
     ap (λ (k : ℕ). owners ++ replicate k owner) none ∙ append-nil owners
 
-module _ (types : List Row) where
+module _ (types : List TypeRow) where
   -- the next skeleton
   behind : (xs : List Start) (i : ℕ) (x : Start) → i < length xs → x ≡ slice_index_or xs i x
       → map (start_in types) (drop i xs) ≡ start_in types x ∷ map (start_in types) (drop (i + 1) xs)

@@ -1,6 +1,6 @@
 -- What is known of a program while constraints are added.
 use Rattle.std.proofs.Common.{◌≡◌, ℕ, List, Option, Some, None, refl, sym, ◌∙◌, ap}
-use Rattle.qual_types.specs.declared.row.Row.{Row}
+use Rattle.qual_types.specs.declared.row.VarRow.{VarRow}
 use Rattle.qual_types.specs.Rows.{skel_of}
 use Rattle.name_rules.specs.Spellings.{Place}
 use Rattle.name_tables.specs.PlaceMap.Values.{number_at, value_at}
@@ -25,17 +25,19 @@ no_number (Some n) = refl
 pub shared : (it : Shared) (skeletons : Skeletons) → it.names.now ≡ it.program.now.names
     → it.vars.now ≡ skeletons.vars → it.starts.now ≡ skeletons.starts
     → AreNumbered (starts_on (has_access it.lattices.now) it.program.now) skeletons
-    → ((p : Place) → value_at it.sites.now p ≡ place_among 0 (site_places (starts_on (has_access it.lattices.now) it.program.now)) p)
+    → ((p : Place)
+    → value_at it.sites.now p ≡ place_among 0 (site_places (starts_on (has_access it.lattices.now) it.program.now)) p)
     → ((p : Place) (n : ℕ) → flag_at it.candidates.now p n ≡ flag_among (selections_on it.program.now) p n)
     → it.access ≡ access_lattices it.lattices.now → IsShared it
 shared it skeletons names vars starts are sites candidates access = record {
   names = names;
   skeletons = λ p.
-      ap (λ (rows : List Row). skel_of rows (or_nowhere (number_at it.starts.now p))) vars
+      ap (λ (rows : List VarRow). skel_of rows (or_nowhere (number_at it.starts.now p))) vars
       ∙ ap (skel_of skeletons.vars)
       (ap (λ found. or_nowhere (number_at found p)) starts ∙ no_number (number_at skeletons.starts p))
       ∙ are.found p;
-  sites = λ p n is. some_number (site_places (starts_on (has_access it.lattices.now) it.program.now)) p n (sym (sites p) ∙ is);
+  sites = λ p n is.
+      some_number (site_places (starts_on (has_access it.lattices.now) it.program.now)) p n (sym (sites p) ∙ is);
   candidates = candidates;
   access = access;
 }

@@ -1,5 +1,5 @@
 -- Constraints are added unit by unit.
-use Rattle.std.proofs.Common.{◌≡◌, ◌<◌, ◌≤◌, ◌+◌, ℕ, zero, suc, Bool, List, [], ◌∷◌, ◌++◌, length, take, drop, slice_index_or, refl, sym, ◌∙◌, ap, subst, arith, append_assoc, append-nil, length-append}
+use Rattle.std.proofs.Common.{◌≡◌, ◌<◌, ◌≤◌, ◌+◌, ℕ, zero, suc, Bool, List, [], ◌∷◌, ◌++◌, length, take, drop, slice_index_or, refl, sym, ◌∙◌, ap, subst, arith, append_assoc, append-nil}
 use Rattle.std.proofs.lemmas.List.{take-append-le}
 use Rattle.std.proofs.Math.Seq.{take-append-add}
 use Rattle.flow_graph.specs.declared.constraint.Constraint.{Constraint}
@@ -19,42 +19,19 @@ use Rattle.unit_types.specs.Resolved.{Resolved, tape_of, tapes_of}
 use Rattle.unit_system.specs.declared.adding.Shared.{Shared}
 use Rattle.unit_system.specs.Sharing.{meant_in, tape_rows, rows_on}
 use Rattle.unit_system.specs.Systems.{names_on, starts_on, starts_among, selections_on, selections_among, rows_among}
+use Rattle.unit_system.proofs.UnitRows.RowLists.{stops_within}
 
 with_none : (sys : System) → sys ≡ with sys []
 with_none sys = sym (ap (λ (cs : List Constraint). record sys { constraints = cs }) (append-nil sys.constraints))
 
 with_more : (sys : System) (xs ys : List Constraint) → with (with sys xs) ys ≡ with sys (xs ++ ys)
-with_more sys xs ys = ap (λ (cs : List Constraint). record sys { constraints = cs }) (append_assoc sys.constraints xs ys)
+with_more sys xs ys =
+    ap (λ (cs : List Constraint). record sys { constraints = cs }) (append_assoc sys.constraints xs ys)
 
 take_in : (xs ys zs : List Constraint) (n : ℕ) → n ≤ length ys
     → take (length xs + n) (xs ++ (ys ++ zs)) ≡ xs ++ take n ys
 take_in xs ys zs n le =
     take-append-add xs (ys ++ zs) n ∙ ap (λ (l : List Constraint). xs ++ l) (take-append-le n ys zs le)
-
--- an adding that stopped inside a longer one
-stops_within : (old now new : System) (fault : GraphFault) (before list after whole : List Constraint)
-    → now ≡ with old before → whole ≡ before ++ (list ++ after) → StopsEarly now new fault list
-    → StopsEarly old new fault whole
-stops_within old now new fault before list after whole so all stop = record {
-  added = length before + stop.added;
-  within =
-      let e = ap length all in
-      let a = length-append before (list ++ after) in
-      let b = length-append list after in
-      let le = stop.within in
-      omega arith;
-  part =
-      stop.part
-      ∙ ap (λ (sys : System). with sys (take stop.added list)) so
-      ∙ with_more old before (take stop.added list)
-      ∙ ap (with old) (sym (ap (take (length before + stop.added)) all ∙ take_in before list after stop.added stop.within));
-  full = λ many.
-      let e = ap length all in
-      let a = length-append before (list ++ after) in
-      let b = length-append list after in
-      let lt : stop.added < length list = (stop.full many).0 in
-      (omega arith, (stop.full many).1);
-}
 
 -- the next unit
 behind : (xs : List UnitTape) (i : ℕ) (x : UnitTape) → i < length xs → x ≡ slice_index_or xs i x
@@ -81,7 +58,8 @@ pub record Begun (access : Bool) (program : Resolved) (units : List UnitTape) (i
   pub selections : some ++ selections_among (names_on program) (tapes_of (drop i units)) ≡ selections_on program
 
 -- before the first unit no skeletons and no selections are found, and all are to come
-pub begun_first : (access : Bool) (program : Resolved) (units : List UnitTape) (found : List rules.Start) (old : PlaceFlags)
+pub begun_first : (access : Bool) (program : Resolved) (units : List UnitTape) (found : List rules.Start)
+    (old : PlaceFlags)
     → units ≡ program.units → found ≡ [] → Begun access program units 0 found old old
 begun_first access program units found old is none = record {
   starts = ap (λ fs. fs ++ starts_among access (names_on program) (tapes_of (drop 0 units))) none
@@ -95,7 +73,8 @@ begun_first access program units found old is none = record {
   none_dropped (x ∷ xs) = refl
 
 -- behind one unit more its skeletons are found and its selections added
-pub begun_next : (access : Bool) (program : Resolved) (units : List UnitTape) (i : ℕ) (unit : UnitTape) (found more : List rules.Start)
+pub begun_next : (access : Bool) (program : Resolved) (units : List UnitTape) (i : ℕ) (unit : UnitTape)
+    (found more : List rules.Start)
     (old now new : PlaceFlags) → i < length units → unit ≡ slice_index_or units i unit
     → Begun access program units i found old now
     → more ≡ found ++ unit_starts access (tape_of unit).spelling (names_on program) (tape_of unit).ops
@@ -134,7 +113,8 @@ begun_selections access program units i found old now le so =
 
 module _ (it : Shared) where
   abbrev rows_left : List UnitTape → List Constraint
-  rows_left units = rows_among (meant_in it) (names_on it.program.now) (starts_on (has_access it.lattices.now) it.program.now)
+  rows_left units =
+      rows_among (meant_in it) (names_on it.program.now) (starts_on (has_access it.lattices.now) it.program.now)
       (selections_on it.program.now) (tapes_of units)
 
   -- what stands in the graph while the constraints of these units are not added yet
@@ -155,7 +135,8 @@ module _ (it : Shared) where
     rows = row ∙ ap (λ (sys : System). with sys (tape_rows it (tape_of unit))) so.rows
         ∙ with_more old so.before (tape_rows it (tape_of unit));
     split = so.split
-        ∙ ap (λ ts. so.before ++ rows_among (meant_in it) (names_on it.program.now) (starts_on (has_access it.lattices.now) it.program.now) (selections_on it.program.now) ts)
+        ∙ ap (λ ts. so.before ++ rows_among (meant_in it) (names_on it.program.now)
+        (starts_on (has_access it.lattices.now) it.program.now) (selections_on it.program.now) ts)
         (behind units i unit lt is)
         ∙ sym (append_assoc so.before (tape_rows it (tape_of unit)) (rows_left (drop (i + 1) units)));
   }
@@ -165,7 +146,8 @@ module _ (it : Shared) where
   at_end old now units i so le =
       so.rows
       ∙ ap (with old) (sym (so.split
-      ∙ ap (λ ts. so.before ++ rows_among (meant_in it) (names_on it.program.now) (starts_on (has_access it.lattices.now) it.program.now) (selections_on it.program.now) ts) (past units i le)
+      ∙ ap (λ ts. so.before ++ rows_among (meant_in it) (names_on it.program.now)
+      (starts_on (has_access it.lattices.now) it.program.now) (selections_on it.program.now) ts) (past units i le)
       ∙ append-nil so.before))
 
   -- the adding of a unit's constraints stopped
@@ -173,9 +155,7 @@ module _ (it : Shared) where
       → Reached old now (drop i units) → i < length units → unit ≡ slice_index_or units i unit
       → StopsEarly now new fault (tape_rows it (tape_of unit)) → StopsEarly old new fault (rows_on it)
   at_stop old now new fault units i unit so lt is stop =
-      stops_within old now new fault so.before (tape_rows it (tape_of unit)) (rows_left (drop (i + 1) units)) (rows_on it)
-      so.rows
-      (so.split
-      ∙ ap (λ ts. so.before ++ rows_among (meant_in it) (names_on it.program.now) (starts_on (has_access it.lattices.now) it.program.now) (selections_on it.program.now) ts)
-      (behind units i unit lt is))
-      stop
+      stops_within old now new fault so.before (tape_rows it (tape_of unit)) (rows_left (drop (i + 1) units))
+      (rows_on it) so.rows (so.split ∙ ap (λ ts. so.before ++ rows_among (meant_in it) (names_on it.program.now)
+      (starts_on (has_access it.lattices.now) it.program.now) (selections_on it.program.now) ts)
+      (behind units i unit lt is)) stop

@@ -47,7 +47,8 @@ rows_on it =
 pub record IsShared (it : Shared) : Type 0 where
   pub names : it.names.now ≡ it.program.now.names
   pub skeletons : (p : Place)
-      → skel_of it.vars.now (or_nowhere (number_at it.starts.now p)) ≡ skeleton_among (numbered_from 0 (starts_on (has_access it.lattices.now) it.program.now)) p
+      → skel_of it.vars.now (or_nowhere (number_at it.starts.now p))
+      ≡ skeleton_among (numbered_from 0 (starts_on (has_access it.lattices.now) it.program.now)) p
   pub sites : (p : Place) (n : ℕ) → value_at it.sites.now p ≡ Some n
       → n ≡ number_among 0 (site_places (starts_on (has_access it.lattices.now) it.program.now)) p
   pub candidates : (p : Place) (n : ℕ) → flag_at it.candidates.now p n ≡ flag_among (selections_on it.program.now) p n

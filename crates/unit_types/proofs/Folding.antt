@@ -1,6 +1,6 @@
 -- The folds of names and of faults, a unit at a time.
 use Rattle.std.proofs.Common.{arith, ◌≡◌, ℕ, zero, suc, ◌+◌, ◌<◌, List, [], ◌∷◌, ◌++◌, length, drop, slice_index_or, ◌∙◌, ap, append_assoc}
-use Rattle.type_table.specs.declared.row.Row.{Row}
+use Rattle.type_table.specs.declared.row.TypeRow.{TypeRow}
 use Rattle.type_table.specs.Types.{CType}
 use Rattle.name_state.specs.NameTypes.Known.{Knows, Grows}
 use Rattle.name_rules.specs.Faults.{Fault}
@@ -13,7 +13,7 @@ use Rattle.unit_types.specs.declared.program.UnitTape.{UnitTape}
 use Rattle.unit_types.specs.Resolved.{tape_of, tapes_of, faults_among}
 
 -- the types of a table are those of any that it grew from
-pub knows_before : (old new : List Row) (t : ℕ → CType) → Grows old new → Knows t new → Knows t old
+pub knows_before : (old new : List TypeRow) (t : ℕ → CType) → Grows old new → Knows t new → Knows t old
 knows_before old new t grows knows = λ n lt. knows n (let l = grows.longer in omega arith) ∙ grows.keeps n lt
 
 -- where a unit's tape leads from some names to others, those on the tapes from that unit on come from the others
@@ -22,7 +22,8 @@ pub names_on_from : (units : List UnitTape) (i : ℕ) (it : UnitTape) (s after :
     → tapes_named (tapes_of (drop (i + 1) units)) after ≡ tapes_named (tapes_of (drop i units)) s
 names_on_from [] i it s after is lt made = absurd (omega arith)
 names_on_from (x ∷ units) zero it s after is lt made =
-    ap (tapes_named (tapes_of units)) (made ∙ ap (λ (u : UnitTape). tape_named (tape_of u) (unit_begun (tape_of u).spelling.unit s)) is)
+    ap (tapes_named (tapes_of units))
+    (made ∙ ap (λ (u : UnitTape). tape_named (tape_of u) (unit_begun (tape_of u).spelling.unit s)) is)
 names_on_from (x ∷ units) (suc i) it s after is lt made =
     let e : suc i + 1 ≡ suc (i + 1) = omega arith in rw e (names_on_from units i it s after is (omega arith) made)
 

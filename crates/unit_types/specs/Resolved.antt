@@ -1,6 +1,6 @@
 -- Units with their names and types, and what their tapes say of both.
 use Rattle.std.specs.Prelude.{List, [], ◌∷◌, ◌++◌, map}
-use Rattle.type_table.specs.declared.row.Row.{Row}
+use Rattle.type_table.specs.declared.row.TypeRow.{TypeRow}
 use Rattle.name_rules.specs.Faults.{Fault}
 use Rattle.name_rules.specs.Scopes as scopes
 use Rattle.name_rules.specs.Units.{no_names}
@@ -15,7 +15,7 @@ use Rattle.unit_types.specs.declared.program.UnitTape.{UnitTape}
 
 -- units whose names and types are known: a table of types, what is known of names, and the tape of each unit
 pub record Resolved : Type 0 where
-  pub rows : List Row
+  pub rows : List TypeRow
   pub implicit : ImplicitTypes
   pub names : Names
   -- in their order

@@ -10,7 +10,7 @@ ghost use Rattle.unit_shapes.specs.Views.{names_in, AreImplicit};
 ghost use Rattle.unit_types.specs.Faults.{IsFirstUnlessMemory};
 ghost use Rattle.unit_types.specs.Resolved.{tapes_of, names_on, faults_among, faults_on};
 
-use crate::fault::{ShapeFault, found};
+use crate::fault::ShapeFault;
 use crate::program::{Program, UnitTape};
 use c_names::name_unit;
 use name_state::found_names::FoundNames;
@@ -129,7 +129,7 @@ pub fn resolve_units(alloc: Global, units: Vec<UnitTape>) -> Result<Program, Sha
         Ok(it) => {
             let Judged { program, first } = it;
             match first {
-                Some(fault) => Err(found(&fault)),
+                Some(fault) => Err(ShapeFault::Found(fault)),
                 None => Ok(program),
             }
         }

@@ -9,12 +9,12 @@ use Rattle.flow_graph.specs.declared.proof.Why.{Why}
 use Rattle.flow_graph.specs.declared.proof.Why.TheVariants.{B1, B2}
 use Rattle.flow_graph.specs.declared.phase.Phase.{Phase}
 use Rattle.flow_graph.specs.declared.phase.Phase.TheVariants.{First, Second}
-use Rattle.flow_graph.specs.declared.place.Seen.{Seen}
-use Rattle.flow_graph.specs.declared.place.Seen.TheVariants.{Edge, Through}
-use Rattle.flow_graph.specs.declared.place.Path.TheVariants.{Main}
+use Rattle.flow_graph.specs.declared.step.Seen.{Seen}
+use Rattle.flow_graph.specs.declared.step.Seen.TheVariants.{Edge, Through}
+use Rattle.flow_graph.specs.declared.step.Path.TheVariants.{Main}
 use Rattle.flow_graph.specs.System.{System, owner_of, Stands}
 use Rattle.flow_graph.specs.PathRules.{agree, ends, is_bound, is_bound_link, link_ends, rule_at}
-use Rattle.flow_graph.specs.PathProofs.{edge_at, edge_or, fault_or, first_failing, last_of, line_of, look, no_order, or_else, place, subs_fault}
+use Rattle.flow_graph.specs.PathProofs.{edge_at, edge_or, fault_or, first_failing, last_of, line_of, look, no_order, or_else, in_path, subs_fault}
 use Rattle.flow_graph.specs.Parts.{settled, Part, Flow, Empty, Full, AreSubs, Onward, ToVariable, There, Along, Back, Into}
 use Rattle.flow_graph.specs.Walks.{IsWalk, constant_to, first_failing_walk, no_span, walk_end_fault, walk_ends, walk_rule_at}
 use Rattle.walk_laws.specs.Laws.{WalkShown}
@@ -45,23 +45,28 @@ module _ (sys : System) (lattice : ℕ) (subs : List (List PathStep)) (to : ℕ)
   part_unbound : (u v : ℕ) (front rest : List PathStep) → Part sys lattice subs u v front → AreUnbound rest
       → AreUnbound (front ++ rest)
   part_unbound u v _ rest (Flow _ _ n st) more = (by_link n (Le u v) st refl, more)
-  part_unbound u v _ rest (Empty _ a _ s n m st ts) more = (by_link n (Enter s u a) st refl, (by_link m (Leave s a v) ts refl, more))
+  part_unbound u v _ rest (Empty _ a _ s n m st ts) more =
+      (by_link n (Enter s u a) st refl, (by_link m (Leave s a v) ts refl, more))
   part_unbound u v _ rest (Full _ a b _ s n m k st is ts) more =
       (by_link n (Enter s u a) st refl, (ap is_bound is, (by_link m (Leave s b v) ts refl, more)))
 
   onward_unbound : (p : Phase) (u : ℕ) (steps : List PathStep) → Onward sys lattice subs (ToVariable to) p u steps
       → AreUnbound steps
   onward_unbound p u _ (There _ _) = tt
-  onward_unbound p u _ (Along _ _ _ v front rest part more) = part_unbound u v front rest part (onward_unbound (settled (owner_of sys v) p) v rest more)
-  onward_unbound _ u _ (Back _ _ v s n rest st more) = (by_link n (Leave s u v) st refl, onward_unbound (settled (owner_of sys v) First) v rest more)
-  onward_unbound p u _ (Into _ _ _ v s n rest st more) = (by_link n (Enter s u v) st refl, onward_unbound (settled (owner_of sys v) Second) v rest more)
+  onward_unbound p u _ (Along _ _ _ v front rest part more) =
+      part_unbound u v front rest part (onward_unbound (settled (owner_of sys v) p) v rest more)
+  onward_unbound _ u _ (Back _ _ v s n rest st more) =
+      (by_link n (Leave s u v) st refl, onward_unbound (settled (owner_of sys v) First) v rest more)
+  onward_unbound p u _ (Into _ _ _ v s n rest st more) =
+      (by_link n (Enter s u v) st refl, onward_unbound (settled (owner_of sys v) Second) v rest more)
 
   -- where no step takes a bound, a walk's rules are those of a path in which nothing is at or below anything
   same_faults : (before : List Seen) (steps : List PathStep) → AreUnbound steps →
-      first_failing_walk sys lattice (look sys subs) before steps ≡ first_failing sys no_order Main lattice 0 (look sys subs) before steps
+      first_failing_walk sys lattice (look sys subs) before steps
+      ≡ first_failing sys no_order Main lattice 0 (look sys subs) before steps
   same_faults before [] none = refl
   same_faults before (s ∷ steps) (is, none) =
-      let p = place sys Main lattice 0 before (look sys subs s) (map (look sys subs) steps) in
+      let p = in_path sys Main lattice 0 before (look sys subs s) (map (look sys subs) steps) in
       let rest = first_failing_walk sys lattice (look sys subs) (look sys subs s ∷ before) steps in
       ap (λ b. fault_or (if b then Some B1 else rule_at sys no_order p) (line_of s) rest) is
       ∙ ap (fault_or (rule_at sys no_order p) (line_of s)) (same_faults (look sys subs s ∷ before) steps none)
@@ -90,7 +95,8 @@ module _ (sys : System) (lattice : ℕ) (subs : List (List PathStep)) (to : ℕ)
           → walk_ends sys u (last_of (t ∷ rest)) ≡ Some to
       arrived_same t [] there = there
       arrived_same t (v ∷ rest) there =
-          ap (walk_ends sys u) (last_more t v rest) ∙ arrived_same v rest (sym (ap (walk_ends sys x) (last_more t v rest)) ∙ there)
+          ap (walk_ends sys u) (last_more t v rest)
+          ∙ arrived_same v rest (sym (ap (walk_ends sys x) (last_more t v rest)) ∙ there)
 
   over_any : (u : ℕ) (s t : PathStep) (rest : List PathStep) → Arrived u (t ∷ rest) → Arrived u (s ∷ t ∷ rest)
   over_any u s t rest there = ap (walk_ends sys u) (last_more s t rest) ∙ there
@@ -107,11 +113,14 @@ module _ (sys : System) (lattice : ℕ) (subs : List (List PathStep)) (to : ℕ)
   arrived : (p : Phase) (u : ℕ) (steps : List PathStep) → Onward sys lattice subs (ToVariable to) p u steps
       → Arrived u steps
   arrived p u _ (There _ _) = refl
-  arrived p u _ (Along _ _ _ v front rest part more) = part_arrived u v front rest part (arrived (settled (owner_of sys v) p) v rest more)
+  arrived p u _ (Along _ _ _ v front rest part more) =
+      part_arrived u v front rest part (arrived (settled (owner_of sys v) p) v rest more)
   arrived _ u _ (Back _ _ v s n rest st more) =
-      arrived_more u v (Take n 0) rest (ends_at n (Leave s u v) st) (arrived (settled (owner_of sys v) First) v rest more)
+      arrived_more u v (Take n 0) rest (ends_at n (Leave s u v) st)
+      (arrived (settled (owner_of sys v) First) v rest more)
   arrived p u _ (Into _ _ _ v s n rest st more) =
-      arrived_more u v (Take n 0) rest (ends_at n (Enter s u v) st) (arrived (settled (owner_of sys v) Second) v rest more)
+      arrived_more u v (Take n 0) rest (ends_at n (Enter s u v) st)
+      (arrived (settled (owner_of sys v) Second) v rest more)
 
 or_both : (a b : Option BadStep) → a ≡ None → b ≡ None → or_else a b ≡ None
 or_both a b first second = ap (λ x. or_else x b) first ∙ second
@@ -121,13 +130,16 @@ pub walk_shown : WalkShown
 walk_shown sys lattice from to end subs steps are walk =
     let first = Edge (constant_to lattice from) in
     let settles : Settles sys no_order lattice 0 subs (settled (owner_of sys from) First) (first ∷ []) =
-    λ is after. call_const sys no_order Main lattice 0 [] after lattice 0 from 0 no_span ∙ quiet_and sys no_order Main lattice 0 _ _ refl in
+    λ is after. call_const sys no_order Main lattice 0 [] after lattice 0 from 0 no_span
+    ∙ quiet_and sys no_order Main lattice 0 _ _ refl in
     let passes : first_failing sys no_order Main lattice 0 (look sys subs) (first ∷ []) steps ≡ None =
-    onward_passes sys no_order lattice 0 subs (ToVariable to) tt (settled (owner_of sys from) First) from steps walk (first ∷ [])
+    onward_passes sys no_order lattice 0 subs (ToVariable to) tt
+    (settled (owner_of sys from) First) from steps walk (first ∷ [])
     (follows_const sys no_order Main lattice 0 lattice 0 from 0 no_span) settles in
     let ends_well : walk_end_fault sys from to steps end ≡ None =
     ap (λ last. if agree last (Some to) then None else Some (record { line = end; why = B2 }))
     (arrived sys lattice subs to (settled (owner_of sys from) First) from steps walk)
     ∙ ap (λ b. if b then None else Some (record { line = end; why = B2 })) (eq-eqb to to refl) in
     or_both _ _ (subs_pass sys no_order lattice 0 subs (subs_are_sub_paths sys lattice subs are))
-    (or_both _ _ (same_faults sys lattice subs to (first ∷ []) steps (onward_unbound sys lattice subs to (settled (owner_of sys from) First) from steps walk) ∙ passes) ends_well)
+    (or_both _ _ (same_faults sys lattice subs to (first ∷ []) steps
+    (onward_unbound sys lattice subs to (settled (owner_of sys from) First) from steps walk) ∙ passes) ends_well)

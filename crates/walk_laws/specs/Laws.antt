@@ -12,5 +12,7 @@ LeadsAreWalks = (sys : System) (lattice u v : ℕ) → IsWellOwned sys → Leads
 
 -- No step of a walk with its sub-paths fails a rule, and it ends where it is to.
 abbrev pub WalkShown : Type 0
-WalkShown = (sys : System) (lattice from to end : ℕ) (subs : List (List PathStep)) (steps : List PathStep) → AreSubs sys lattice subs →
+WalkShown =
+    (sys : System) (lattice from to end : ℕ) (subs : List (List PathStep)) (steps : List PathStep)
+    → AreSubs sys lattice subs →
     IsWalk sys lattice subs from to steps → walk_fault sys lattice from to subs steps end ≡ None

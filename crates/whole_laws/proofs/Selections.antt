@@ -15,7 +15,8 @@ use Rattle.row_rules.specs.Sites.{AreDifferent}
 use Rattle.row_rules.specs.RowSteps.Starting.{form_op_selections, op_selections, selections_found}
 use Rattle.constraint_rules.specs.Systems.{selections_among}
 use Rattle.row_laws.specs.StartLaws.Laws.{SelectionsOfProgramAreFound, selections_on}
-use Rattle.row_laws.specs.KeyLaws.Keys.{form_key, op_key, key_place, key_places}
+use Rattle.row_laws.specs.KeyLaws.Keys.{op_key, key_place, key_places}
+use Rattle.expr_types.specs.Keys.{form_key}
 use Rattle.row_laws.specs.KeyLaws.Differing.{keys_among}
 use Rattle.missing_laws.specs.Programs.{selection_places}
 use Rattle.whole_laws.proofs.Parts.{IsPart, none, part_differs, no_part, joined_part, same_part}

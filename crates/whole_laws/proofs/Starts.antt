@@ -31,7 +31,8 @@ use Rattle.row_rules.specs.RowSteps.Rounds.{Rounds, file, naming, left, round_st
 use Rattle.row_rules.specs.RowSteps.Starting.{around, naming_has, selected_among, expr_op_starts, form_op_starts, init_op_starts, spec_op_starts, declr_op_starts, op_starts, starts_found, unit_starts}
 use Rattle.constraint_rules.specs.Systems.{starts_of}
 use Rattle.row_laws.specs.StartLaws.Laws.{IsSound, StartsOfProgramAreFound, found_on}
-use Rattle.row_laws.specs.KeyLaws.Keys.{expr_key, form_key, init_key, spec_key, declr_key, op_key, key_place, key_places}
+use Rattle.row_laws.specs.KeyLaws.Keys.{expr_key, spec_key, declr_key, op_key, key_place, key_places}
+use Rattle.expr_types.specs.Keys.{form_key, init_key}
 use Rattle.row_laws.specs.KeyLaws.Differing.{keys_among}
 use Rattle.owned_laws.proofs.ScopeLaws.Places.{declared_place}
 use Rattle.missing_laws.specs.Programs.{start_places}
@@ -75,7 +76,12 @@ module _ (a : Around) (token : ℕ) where
   instance_at p t = by a.is_quiet
     where
       by : (b : Bool) → AtToken (if b then [] else
-          record { at = place a.spelling token; type = pointer [] t; owner = a.enclosing; calls = Some (link_of a.names p) } ∷ [])
+          record {
+            at = place a.spelling token;
+            type = pointer [] t;
+            owner = a.enclosing;
+            calls = Some (link_of a.names p);
+          } ∷ [])
       by true = nothing_at
       by false = same_part (place a.spelling token)
 

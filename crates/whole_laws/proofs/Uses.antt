@@ -102,8 +102,8 @@ tag_same None u kind token tag s = refl
 tag_used_same : (u : Spelling) (alone : Bool) (kind : TagKind) (token tag : ℕ) (s : Names) →
     (tag_used u alone kind token tag s).names.uses ≡ s.uses
 tag_used_same u alone kind token tag s =
-    tag_same (if alone then tag_in (innermost s.scopes).tags kind (u.key tag) else tag_through s.scopes kind (u.key tag))
-    u kind token tag s
+    tag_same (if alone then tag_in (innermost s.scopes).tags kind (u.key tag)
+    else tag_through s.scopes kind (u.key tag)) u kind token tag s
 
 -- a tag that is known leaves the uses of names as they were
 tag_known_same : (tag : Option ℕ) (n : ℕ) (s : Names) → (tag_known tag n s).uses ≡ s.uses
@@ -187,7 +187,8 @@ module _ (u : Spelling) where
   declr_same st declrs.OldParam = by (has_word keywords.Typedef (declaration st).storage)
     where
       by : (b : Bool) → (if b then name_declared u st else name_ended (with_olds
-          (old_declared_some u (parameters st).own (declaration st).name (decayed (declaration st).declared) (olds st)) st)).names.uses
+          (old_declared_some u (parameters st).own (declaration st).name (decayed (declaration st).declared)
+          (olds st)) st)).names.uses
           ≡ st.names.uses
       by true = name_same st
       by false =
@@ -197,7 +198,8 @@ module _ (u : Spelling) where
   declr_same st op = refl
 
   stmt_same : (st : State) (op : StmtOp) → (statement_step u st op).names.uses ≡ st.names.uses
-  stmt_same st stmts.FunctionBody = entered_same (is_plain st) (is_counted u st) (last_or None st.names.declared) st.names
+  stmt_same st stmts.FunctionBody =
+      entered_same (is_plain st) (is_counted u st) (last_or None st.names.declared) st.names
   stmt_same st op = refl
 
   module _ (st : State) (keys : List Place) (h : IsPart (use_places st.names.uses) keys) where

@@ -1,15 +1,15 @@
 -- No two declarations, uses of names or skeletons of units that were read are at one place.
-use Rattle.std.proofs.Common.{◌≡◌, Bool, true, false, All, List, [], ◌∷◌, None, Some, refl}
-use Rattle.std.proofs.lemmas.List.Elements.{All-nil, All-cons, All-head, All-tail}
+use Rattle.std.proofs.Common.{◌≡◌, Bool, true, false, List, [], ◌∷◌, None, Some, refl}
 use Rattle.std.specs.Prelude.{if◌then◌else◌}
 use Rattle.name_rules.specs.Spellings.{Place}
 use Rattle.name_rules.specs.Scopes.{Declared, declared_at, is_place}
-use Rattle.type_rules.specs.Program.{Source, names_of}
-use Rattle.resolve_laws.specs.NameLaws.NameLaws.{IsSound, NamesOfTapes}
+use Rattle.type_rules.specs.Program.{names_of}
+use Rattle.resolve_laws.specs.NameLaws.NameLaws.{NamesOfTapes}
 use Rattle.row_rules.specs.Sites.{AreDifferent, has_place}
 use Rattle.name_rules.specs.MeaningLaws.Meanings.{Differ}
 use Rattle.row_laws.specs.StartLaws.Laws.{SelectionsOfProgramAreFound, StartsOfProgramAreFound}
-use Rattle.row_laws.specs.KeyLaws.Differing.{IsRead, KeysDiffer, keys_among}
+use Rattle.row_laws.specs.KeyLaws.Differing.{KeysDiffer, keys_among}
+use Rattle.row_laws.proofs.KeyLaws.Sound.{sound_of}
 use Rattle.owned_laws.specs.ScopeLaws.Apart.{DeclarationsDiffer}
 use Rattle.missing_laws.specs.Programs.{declared_places}
 use Rattle.whole_laws.specs.Programs.{PlacesOfReadDiffer}
@@ -31,13 +31,6 @@ none_declared (d ∷ ds) p e = by (is_place d.at p) e (none_declared ds p)
 declared_differ : (ds : List Declared) → Differ ds → AreDifferent (declared_places ds)
 declared_differ [] h = tt
 declared_differ (d ∷ ds) h = (none_declared ds d.at h.0, declared_differ ds h.1)
-
--- sources that are read are sound
-sound_of : (sources : List Source) → All IsRead sources → All IsSound sources
-sound_of [] h = All-nil IsSound
-sound_of (it ∷ sources) h =
-    let read = All-head IsRead it sources h in
-    All-cons IsSound it sources (read.all, read.rules) (sound_of sources (All-tail IsRead it sources h))
 
 -- no two declarations, uses, skeletons or selections of units that were read are at one place, by the laws of tapes
 pub places_differ : KeysDiffer → NamesOfTapes → DeclarationsDiffer → StartsOfProgramAreFound

@@ -9,8 +9,7 @@ use Rattle.first_laws.specs.Firsts.{NamesDiffer}
 use Rattle.missing_laws.specs.Programs.{EachHasSkeletons, EachMissesNothing, PlacesDiffer}
 
 -- A unit as it is read from text, as wider C or not: it is what is well formed of some tokens, scopes of names
--- included. No two tokens have
--- one number, and no two names have one number in all units.
+-- included. No two tokens have one number, and no two names have one number in all units.
 pub record IsParsed (it : Source) : Type 0 where
   pub all : List Lexeme
   pub formed : IsWellFormed it.spelling.wide all it.items
@@ -29,4 +28,5 @@ ReadProgramsHaveSkeletons =
 -- no constraint of a program that was read and has no fault stands on what is missing
 abbrev pub ReadProgramsMissNothing : Type 0
 ReadProgramsMissNothing =
-    (p : Program) → All IsParsed p.sources → UnitsDiffer p.sources → HasNoFault p.sources → EachMissesNothing p p.sources
+    (p : Program) → All IsParsed p.sources → UnitsDiffer p.sources → HasNoFault p.sources
+    → EachMissesNothing p p.sources

@@ -6,8 +6,8 @@ use Rattle.std.proofs.lemmas.Bool.{leb-true, le-leb}
 use Rattle.c_words.specs.declared.kinds.TokenKind.{TokenKind}
 use Rattle.c_tree.specs.declared.lexeme.Lexeme.{Lexeme}
 use Rattle.c_units.specs.HeldScopes.{HeldScopes}
-use Rattle.c_reading.specs.declared.kinds.Fault.{Fault}
-use Rattle.c_reading.specs.declared.kinds.Fault.TheVariants.{TooDeep}
+use Rattle.c_reading.specs.declared.kinds.FaultKind.{FaultKind}
+use Rattle.c_reading.specs.declared.kinds.FaultKind.TheVariants.{TooDeep}
 use Rattle.c_reading.specs.Reading.{Found, Read, Reader, Turn, and_then, ends, fits, refuses, kind_at, behind_first, number_at, take_one, turns, run, repeated, repeated_turn, listed, comma_turn, comma_turn_by, with_next, Next, CommaList, is_comma}
 use Rattle.wide_laws.specs.Wide.{Leaves, IsAmong, Late, Passes, BothOf, Both, Ahead}
 
@@ -55,7 +55,7 @@ both_same {ts = ts} r h = record { late = h; pass = λ s d. passes_same ts r }
 pub ready : {A S D : Type 0} (x : Found A) → Both S D x.rest (Ok x) (Ok x)
 ready x = record { late = all_left x.rest; pass = λ s d. refl }
 
-pub refused : {A S D : Type 0} (fault : Fault) (ts : List Lexeme)
+pub refused : {A S D : Type 0} (fault : FaultKind) (ts : List Lexeme)
     → BothOf A S D ts (Err (fault, number_at ts)) (Err (fault, number_at ts))
 refused fault ts = record { late = inr (ts, (all_left ts, refl)); pass = λ s d. inl refl }
 
@@ -69,7 +69,10 @@ when f h = record { late = h.late; pass = λ s d. h.pass s (f d) }
 pub both_behind : {A B S D : Type 0} {ts : List Lexeme} (r q : Read A) (f g : Found A → Read B) → Both S D ts r q
     → ((x : Found A) → Both S (D × (r ≡ Ok x)) x.rest (f x) (g x)) → Both S D ts (and_then r f) (and_then q g)
 unfolding and_then
-both_behind {A} {B} {S} {D} {ts} r q f g h k = record { late = late_bind ts q g h.late (λ x. (k x).late); pass = λ s d. by_narrow r q h.late (h.pass s d) (λ x is. (k x).pass s (d, is)) (λ x. (k x).late) }
+both_behind {A} {B} {S} {D} {ts} r q f g h k = record {
+  late = late_bind ts q g h.late (λ x. (k x).late);
+  pass = λ s d. by_narrow r q h.late (h.pass s d) (λ x is. (k x).pass s (d, is)) (λ x. (k x).late);
+}
   where
     by_narrow : (r q : Read A) → Late ts q → Passes ts r q → ((x : Found A) → r ≡ Ok x → Passes x.rest (f x) (g x))
         → ((x : Found A) → Late x.rest (g x)) → Passes ts (and_then r f) (and_then q g)
@@ -77,7 +80,12 @@ both_behind {A} {B} {S} {D} {ts} r q f g h k = record { late = late_bind ts q g 
         let left : Leaves ts x.rest = subst (λ (q : Read A). Late ts q) is l in
         subst (λ (q : Read A). Passes ts (f x) (and_then q g)) (sym is) (passes_down left (f x) (g x) (p x refl))
     by_narrow (Err e) q l (inl same) p k = inl (rw same refl)
-    by_narrow (Err e) q l (inr deep) p k = inr (record { at = deep.at; left = deep.left; is = deep.is; late = late_bind (behind_first deep.at) q g deep.late k })
+    by_narrow (Err e) q l (inr deep) p k = inr (record {
+      at = deep.at;
+      left = deep.left;
+      is = deep.is;
+      late = late_bind (behind_first deep.at) q g deep.late k;
+    })
 
 pub both_bind : {A B S D : Type 0} {ts : List Lexeme} (r q : Read A) (f g : Found A → Read B) → Both S D ts r q
     → ((x : Found A) → Both S D x.rest (f x) (g x)) → Both S D ts (and_then r f) (and_then q g)
@@ -102,9 +110,11 @@ pub both_fits_in : {A S D : Type 0} (least room wide : ℕ) (ts : List Lexeme) (
     → (S → least ≤ wide → Late (behind_first ts) q) → Both S (least ≤ room) ts r q →
     Both S D ts (fits least room ts r) (fits least wide ts q)
 unfolding fits
-both_fits_in {A} {S} {D} least room wide ts r q less past h = record { late = late_fits least wide ts ts q h.late; pass = λ s d. by_room (nat_le least room) refl s }
+both_fits_in {A} {S} {D} least room wide ts r q less past h =
+    record { late = late_fits least wide ts ts q h.late; pass = λ s d. by_room (nat_le least room) refl s }
   where
-    by_wide : (b : Bool) → nat_le least wide ≡ b → S → Passes {A = A} ts (refuses TooDeep ts) (if b then q else refuses TooDeep ts)
+    by_wide : (b : Bool) → nat_le least wide ≡ b → S
+        → Passes {A = A} ts (refuses TooDeep ts) (if b then q else refuses TooDeep ts)
     by_wide true is s = inr (record { at = ts; left = all_left ts; is = refl; late = past s (leb-true least wide is) })
     by_wide false is s = inl refl
 
@@ -113,7 +123,8 @@ both_fits_in {A} {S} {D} least room wide ts r q less past h = record { late = la
     by_room true is s =
         let low : least ≤ room = leb-true least room is in
         let lower : least ≤ wide = omega (arith, less, low) in
-        subst (λ (b : Bool). Passes ts r (if b then q else refuses TooDeep ts)) (sym (le-leb least wide lower)) (h.pass s low)
+        subst (λ (b : Bool). Passes ts r (if b then q else refuses TooDeep ts)) (sym (le-leb least wide lower))
+        (h.pass s low)
     by_room false is s = by_wide (nat_le least wide) refl s
 
 pub both_fits : {A S D : Type 0} (least room wide : ℕ) (ts : List Lexeme) (r q : Read A) → room ≤ wide
@@ -138,7 +149,10 @@ pub both_takes : {A S D : Type 0} (least room wide : ℕ) (s : HeldScopes) (ts :
     Ahead S D ts (fits least room ts (and_then (take_one s ts) f)) (fits least wide ts (and_then (take_one s ts) g))
 both_takes {A} {S} {D} least room wide s ts f g less k =
     let past : Late (behind_first ts) (and_then (take_one s ts) g) = past_take s ts g (λ x. (k x).late) in
-    record { past = late_fits least wide ts (behind_first ts) _ past; both = both_fits least room wide ts _ _ less (λ s. past) (both_then (take_one s ts) f g (late_take s ts) k) }
+    record {
+      past = late_fits least wide ts (behind_first ts) _ past;
+      both = both_fits least room wide ts _ _ less (λ s. past) (both_then (take_one s ts) f g (late_take s ts) k);
+    }
 
 -- the same where nobody asks what the second does behind the token
 pub both_asks : {A S D : Type 0} (least room wide : ℕ) (s : HeldScopes) (ts : List Lexeme) (f g : Found ℕ → Read A)
@@ -150,16 +164,19 @@ both_asks least room wide s ts f g less k = (both_takes least room wide s ts f g
 pub ahead_take : {A S D : Type 0} (s : HeldScopes) (ts : List Lexeme) (f g : Found ℕ → Read A)
     → ((x : Found ℕ) → Both S D x.rest (f x) (g x))
     → Ahead S D ts (and_then (take_one s ts) f) (and_then (take_one s ts) g)
-ahead_take s ts f g k = record { past = past_take s ts g (λ x. (k x).late); both = both_then (take_one s ts) f g (late_take s ts) k }
+ahead_take s ts f g k =
+    record { past = past_take s ts g (λ x. (k x).late); both = both_then (take_one s ts) f g (late_take s ts) k }
 
 -- a question before a reader that goes on behind the first token, with something made of what that read
 pub owned_asks : {A B S D : Type 0} (least room wide : ℕ) (ts : List Lexeme) (r q : Read A) (f : Found A → Read B)
     → room ≤ wide → Ahead S (least ≤ room) ts r q → ((x : Found A) → Late x.rest (f x)) →
     Both S D ts (fits least room ts (and_then r f)) (fits least wide ts (and_then q f))
-owned_asks least room wide ts r q f less h k = both_fits least room wide ts _ _ less (λ s. late_bind (behind_first ts) q f h.past k) (both_bind r q f f h.both (λ x. both_same (f x) (k x)))
+owned_asks least room wide ts r q f less h k =
+    both_fits least room wide ts _ _ less (λ s. late_bind (behind_first ts) q f h.past k)
+    (both_bind r q f f h.both (λ x. both_same (f x) (k x)))
 
 -- the token behind the first is refused
-pub refused_behind : {A S D : Type 0} (fault : Fault) (ts : List Lexeme)
+pub refused_behind : {A S D : Type 0} (fault : FaultKind) (ts : List Lexeme)
     → BothOf A S D ts (Err (fault, number_at (behind_first ts))) (Err (fault, number_at (behind_first ts)))
 refused_behind fault ts = record { late = inr (behind_first ts, (behind_left ts, refl)); pass = λ s d. inl refl }
 
@@ -190,13 +207,18 @@ pub both_turns : {A S D : Type 0} (turn other : Turn A)
     Both S D ts (turns turn n a s ts) (turns other n a s ts)
 unfolding turns
 both_turns turn other m zero a s ts = ready _
-both_turns {A} {S} {D} turn other m (suc n) a s ts = by_turn (λ a s ts. both_turns turn other m n a s ts) (turn a s ts) (other a s ts) (m a s ts)
+both_turns {A} {S} {D} turn other m (suc n) a s ts =
+    by_turn (λ a s ts. both_turns turn other m n a s ts) (turn a s ts) (other a s ts) (m a s ts)
   where
     by_turn : ((a : A) (s : HeldScopes) (ts : List Lexeme) → Both S D ts (turns turn n a s ts) (turns other n a s ts))
         → (r q : Option (Read A)) → BothTurn S D ts r q →
-        Both S D ts (elim r [ None ↦ ends a s ts | Some read ↦ and_then read (λ x. turns turn n x.tree x.scopes x.rest) ]) (elim q [ None ↦ ends a s ts | Some read ↦ and_then read (λ x. turns other n x.tree x.scopes x.rest) ])
+        Both S D ts
+        (elim r [ None ↦ ends a s ts | Some read ↦ and_then read (λ x. turns turn n x.tree x.scopes x.rest) ])
+        (elim q [ None ↦ ends a s ts | Some read ↦ and_then read (λ x. turns other n x.tree x.scopes x.rest) ])
     by_turn again None None h = ready _
-    by_turn again (Some r) (Some q) h = both_bind r q (λ x. turns turn n x.tree x.scopes x.rest) (λ x. turns other n x.tree x.scopes x.rest) h (λ x. again x.tree x.scopes x.rest)
+    by_turn again (Some r) (Some q) h =
+        both_bind r q (λ x. turns turn n x.tree x.scopes x.rest) (λ x. turns other n x.tree x.scopes x.rest) h
+        (λ x. again x.tree x.scopes x.rest)
     by_turn again None (Some q) h = absurd h
     by_turn again (Some r) None h = absurd h
 
@@ -223,18 +245,25 @@ pub both_repeated : {T S D : Type 0} (begins : TokenKind → Bool) (read other :
     Both S D ts (repeated begins read s ts) (repeated begins other s ts)
 unfolding repeated
 both_repeated begins read other m s ts =
-    both_run (repeated_turn begins read) (repeated_turn begins other) (λ xs s ts. both_guarded (begins (kind_at ts)) _ _ (λ is. both_bind (read s ts) (other s ts) (λ x. ends (xs ++ x.tree ∷ []) x.scopes x.rest) (λ x. ends (xs ++ x.tree ∷ []) x.scopes x.rest) (m s ts is) (λ x. ready _))) [] s ts
+    both_run (repeated_turn begins read) (repeated_turn begins other) (λ xs s ts. both_guarded (begins (kind_at ts)) _ _
+    (λ is. both_bind (read s ts) (other s ts) (λ x. ends (xs ++ x.tree ∷ []) x.scopes x.rest)
+    (λ x. ends (xs ++ x.tree ∷ []) x.scopes x.rest) (m s ts is) (λ x. ready _))) [] s ts
 
 -- one reader alone, again and again
 pub late_repeated : {T : Type 0} (begins : TokenKind → Bool) (read : Reader T)
     → ((s : HeldScopes) (ts : List Lexeme) → Late ts (read s ts)) → (s : HeldScopes) (ts : List Lexeme)
     → Late ts (repeated begins read s ts)
 late_repeated {T} begins read m s ts =
-    let both : Both ⊥ ⊥ ts (repeated begins read s ts) (repeated begins read s ts) = both_repeated begins read read (λ s ts is. both_same (read s ts) (m s ts)) s ts in both.late
+    let both : Both ⊥ ⊥ ts (repeated begins read s ts) (repeated begins read s ts) =
+    both_repeated begins read read (λ s ts is. both_same (read s ts) (m s ts)) s ts in
+    both.late
 
 -- behind a token, and so at it
 pub higher : {A S D : Type 0} (t : Lexeme) (ts : List Lexeme) (r q : Read A) → Both S D ts r q → Both S D (t ∷ ts) r q
-higher t ts r q h = record { late = late_down (behind_left (t ∷ ts)) q h.late; pass = λ s d. passes_down (behind_left (t ∷ ts)) r q (h.pass s d) }
+higher t ts r q h = record {
+  late = late_down (behind_left (t ∷ ts)) q h.late;
+  pass = λ s d. passes_down (behind_left (t ∷ ts)) r q (h.pass s d);
+}
 
 -- what stands behind commas
 pub both_commas : {T E S F : Type 0} (next others : ℕ → Reader (Next T E))
@@ -252,7 +281,9 @@ both_commas {T} {E} {S} {F} next others ms a s ts = both_run (comma_turn next) (
         by_ending (Some e) ts = tt
         by_ending None [] = tt
         by_ending None (t ∷ ts) =
-            both_guarded (is_comma t.kind) _ _ (λ is. higher t ts _ _ (both_bind (next t.at s ts) (others t.at s ts) (λ x. ends (with_next a.items x.tree) x.scopes x.rest) (λ x. ends (with_next a.items x.tree) x.scopes x.rest) (ms t.at s ts) (λ x. ready _)))
+            both_guarded (is_comma t.kind) _ _ (λ is. higher t ts _ _
+            (both_bind (next t.at s ts) (others t.at s ts) (λ x. ends (with_next a.items x.tree) x.scopes x.rest)
+            (λ x. ends (with_next a.items x.tree) x.scopes x.rest) (ms t.at s ts) (λ x. ready _)))
 
 -- lists with commas
 pub both_listed : {T E S D F : Type 0} (first other : Reader T) (next others : ℕ → Reader (Next T E))
@@ -262,7 +293,8 @@ pub both_listed : {T E S D F : Type 0} (first other : Reader T) (next others : �
     → Both S D ts (listed first next s ts) (listed other others s ts)
 unfolding listed
 both_listed first other next others s ts m to ms =
-    both_behind (first s ts) (other s ts) _ _ m (λ x. when (λ d. to x d.0 d.1) (both_commas next others ms (record { items = x.tree ∷ []; ending = None }) x.scopes x.rest))
+    both_behind (first s ts) (other s ts) _ _ m (λ x. when (λ d. to x d.0 d.1)
+    (both_commas next others ms (record { items = x.tree ∷ []; ending = None }) x.scopes x.rest))
 
 -- a loop whose first turn goes on
 pub past_run : {A : Type 0} (turn : Turn A)
@@ -276,12 +308,17 @@ past_run {A} turn m us a s ts r is h = by_turn (turn a s ts) is
     some_is q h = cc
 
     late_turns : (x : Found A) → Late x.rest (turns turn (length ts) x.tree x.scopes x.rest)
-    late_turns x = let both : Both ⊥ ⊥ x.rest (turns turn (length ts) x.tree x.scopes x.rest) (turns turn (length ts) x.tree x.scopes x.rest) = both_turns turn turn m (length ts) x.tree x.scopes x.rest in both.late
+    late_turns x =
+        let both : Both ⊥ ⊥ x.rest (turns turn (length ts) x.tree x.scopes x.rest)
+        (turns turn (length ts) x.tree x.scopes x.rest) = both_turns turn turn m (length ts) x.tree x.scopes x.rest in
+        both.late
 
     by_turn : (o : Option (Read A)) → o ≡ Some r
-        → Late us (elim o [ None ↦ ends a s ts | Some read ↦ and_then read (λ x. turns turn (length ts) x.tree x.scopes x.rest) ])
+        → Late us
+        (elim o [ None ↦ ends a s ts | Some read ↦ and_then read (λ x. turns turn (length ts) x.tree x.scopes x.rest) ])
     by_turn None none = absurd cc
-    by_turn (Some q) same = late_bind us q _ (subst (λ (q : Read A). Late us q) (sym (some_is q same)) h) (λ x. late_turns x)
+    by_turn (Some q) same =
+        late_bind us q _ (subst (λ (q : Read A). Late us q) (sym (some_is q same)) h) (λ x. late_turns x)
 
 -- a loop without a turn
 pub run_ends : {A : Type 0} (turn : Turn A) (a : A) (s : HeldScopes) (ts : List Lexeme) → turn a s ts ≡ None
@@ -289,6 +326,8 @@ pub run_ends : {A : Type 0} (turn : Turn A) (a : A) (s : HeldScopes) (ts : List 
 unfolding run turns
 run_ends {A} turn a s ts is = by_turn (turn a s ts) is
   where
-    by_turn : (o : Option (Read A)) → o ≡ None → ◌≡◌ {A = Read A} (elim o [ None ↦ ends a s ts | Some read ↦ and_then read (λ x. turns turn (length ts) x.tree x.scopes x.rest) ]) (Ok (record { tree = a; scopes = s; rest = ts }))
+    by_turn : (o : Option (Read A)) → o ≡ None → ◌≡◌ {A = Read A}
+        (elim o [ None ↦ ends a s ts | Some read ↦ and_then read (λ x. turns turn (length ts) x.tree x.scopes x.rest) ])
+        (Ok (record { tree = a; scopes = s; rest = ts }))
     by_turn None none = refl
     by_turn (Some q) some = absurd cc

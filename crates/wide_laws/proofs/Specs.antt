@@ -117,7 +117,9 @@ module _ {S : Type 0} (n gap : ℕ) (inner other : Inner) (m : InnerBoth S n gap
     unfolding specs_here
     specs_here_both role s ts =
         both_choice (begins_role role s (kind_at ts)) _ _ _ _
-        (λ is. both_fits 2 room wide ts _ _ wider.0 (λ strict. m.words_first strict role (wide - 1) (omega (arith, less, wider)) s ts is) (when (λ two. omega (arith, less, two)) (m.words role no_words (room - 1) (wide - 1) (omega (arith, wider)) s ts)))
+        (λ is. both_fits 2 room wide ts _ _ wider.0
+        (λ strict. m.words_first strict role (wide - 1) (omega (arith, less, wider)) s ts is) (when
+        (λ two. omega (arith, less, two)) (m.words role no_words (room - 1) (wide - 1) (omega (arith, wider)) s ts)))
         (λ off. refused _ ts)
 
     pub value_both : {D : Type 0} (test : TokenKind → Bool) (s : HeldScopes) (ts : List Lexeme)
@@ -125,20 +127,25 @@ module _ {S : Type 0} (n gap : ℕ) (inner other : Inner) (m : InnerBoth S n gap
     unfolding value_with
     value_both test s ts =
         both_if (test (kind_at ts)) _ _ _ _
-        (both_asks 2 room wide s ts _ _ wider.0 (λ token. both_bind _ _ _ _ (when (λ two. omega (arith, less, two)) (m.exprs Conditional nothing (room - 1) (wide - 1) (omega (arith, wider)) token.scopes token.rest)) (λ e. ready _))) (ready _)
+        (both_asks 2 room wide s ts _ _ wider.0 (λ token. both_bind _ _ _ _ (when (λ two. omega (arith, less, two))
+        (m.exprs Conditional nothing (room - 1) (wide - 1) (omega (arith, wider)) token.scopes token.rest))
+        (λ e. ready _))) (ready _)
 
     width_both : {D : Type 0} (s : HeldScopes) (ts : List Lexeme)
         → Both S D ts (width_with inner room s ts) (width_with other wide s ts)
     unfolding width_with
     width_both s ts =
-        both_asks 2 room wide s ts _ _ wider.0 (λ colon. both_bind _ _ _ _ (when (λ two. omega (arith, less, two)) (m.exprs Conditional nothing (room - 1) (wide - 1) (omega (arith, wider)) colon.scopes colon.rest))
+        both_asks 2 room wide s ts _ _ wider.0 (λ colon. both_bind _ _ _ _ (when (λ two. omega (arith, less, two))
+        (m.exprs Conditional nothing (room - 1) (wide - 1) (omega (arith, wider)) colon.scopes colon.rest))
         (λ e. both_bind _ _ _ _ (attrs_both room wide wider.0 e.scopes e.rest) (λ attrs. ready _)))
 
   pub named_declr_both : (wanted : Option Kind) (room wide : ℕ) → Near gap room wide
       → (s : HeldScopes) (ts : List Lexeme)
       → Both S (room < n) ts (named_declr inner wanted room s ts) (named_declr other wanted wide s ts)
   unfolding named_declr
-  named_declr_both wanted room wide wider s ts = both_bind _ _ _ _ (m.declrs Named wanted false room wide wider s ts) (λ d. both_same _ (late_present d.tree.declr d.scopes d.rest))
+  named_declr_both wanted room wide wider s ts =
+      both_bind _ _ _ _ (m.declrs Named wanted false room wide wider s ts)
+      (λ d. both_same _ (late_present d.tree.declr d.scopes d.rest))
 
   module _ (room wide : ℕ) (less : room < suc n) (wider : Near gap room wide) where
     mem_declr_both : (s : HeldScopes) (ts : List Lexeme)
@@ -146,22 +153,27 @@ module _ {S : Type 0} (n gap : ℕ) (inner other : Inner) (m : InnerBoth S n gap
     unfolding mem_declr_with field_with
     mem_declr_both s ts =
         both_if (is_colon (kind_at ts)) _ _ _ _ (width_both room wide less wider s ts)
-        (both_bind _ _ _ _ (when (λ one. omega (arith, less, one)) (named_declr_both None (room - 1) (wide - 1) (omega (arith, wider)) s ts))
-        (λ d. both_bind _ _ _ _ (value_both room wide less wider is_colon d.scopes d.rest) (λ width. both_bind _ _ _ _ (attrs_both room wide wider.0 width.scopes width.rest) (λ attrs. ready _))))
+        (both_bind _ _ _ _ (when (λ one. omega (arith, less, one))
+        (named_declr_both None (room - 1) (wide - 1) (omega (arith, wider)) s ts))
+        (λ d. both_bind _ _ _ _ (value_both room wide less wider is_colon d.scopes d.rest) (λ width.
+        both_bind _ _ _ _ (attrs_both room wide wider.0 width.scopes width.rest) (λ attrs. ready _))))
 
     mem_declrs_both : (s : HeldScopes) (ts : List Lexeme)
         → Both S (1 ≤ room) ts (mem_declrs_with inner room s ts) (mem_declrs_with other wide s ts)
     unfolding mem_declrs_with first_member next_member
     mem_declrs_both s ts =
         both_if (is_semicolon (kind_at ts)) _ _ _ _ (ready _)
-        (both_bind _ _ _ _ (both_listed (first_member inner room) (first_member other wide) (next_member inner room) (next_member other wide) s ts (both_bind _ _ _ _ (mem_declr_both s ts) (λ d. ready _)) (λ x one is. one)
-        (λ comma s ts. both_bind _ _ _ _ (attrs_both room wide wider.0 s ts) (λ attrs. both_bind _ _ _ _ (mem_declr_both attrs.scopes attrs.rest) (λ d. ready _)))) (λ ds. ready _))
+        (both_bind _ _ _ _ (both_listed (first_member inner room) (first_member other wide) (next_member inner room)
+        (next_member other wide) s ts (both_bind _ _ _ _ (mem_declr_both s ts) (λ d. ready _)) (λ x one is. one)
+        (λ comma s ts. both_bind _ _ _ _ (attrs_both room wide wider.0 s ts)
+        (λ attrs. both_bind _ _ _ _ (mem_declr_both attrs.scopes attrs.rest) (λ d. ready _)))) (λ ds. ready _))
 
   -- specifiers that were read had room for two levels
   pub specs_two : (role : Role) (room : ℕ) (s : HeldScopes) (ts : List Lexeme) (x : Found SpecWords)
       → specs_here inner role room s ts ≡ Ok x → 2 ≤ room
   unfolding specs_here
-  specs_two role room s ts x e = if_ok (begins_role role s (kind_at ts)) e (λ is e. (fits_ok 2 room ts e).0) (λ is e. absurd cc)
+  specs_two role room s ts x e =
+      if_ok (begins_role role s (kind_at ts)) e (λ is e. (fits_ok 2 room ts e).0) (λ is e. absurd cc)
 
   module _ (room wide : ℕ) (less : room < suc n) (wider : Near gap room wide) where
     struct_item_both : {D : Type 0} (s : HeldScopes) (ts : List Lexeme)
@@ -169,9 +181,13 @@ module _ {S : Type 0} (n gap : ℕ) (inner other : Inner) (m : InnerBoth S n gap
     unfolding struct_item_with member_with
     struct_item_both s ts =
         both_if (is_semicolon (kind_at ts)) _ _ _ _ (both_asks 1 room wide s ts _ _ wider.0 (λ semi. ready _))
-        (both_choice (is_static_assert (kind_at ts)) _ _ _ _ (λ is. assert_both room wide wider.0 s ts _ is (λ it. all_left it.rest))
-        (λ off. both_bind _ _ _ _ (exts_both room wide wider.0 s ts) (λ exts. both_behind _ _ _ _ (specs_here_both room wide less wider Typed exts.scopes exts.rest)
-        (λ words. both_bind _ _ _ _ (when (λ d. let two = specs_two Typed room exts.scopes exts.rest words d.1 in omega (arith, two)) (mem_declrs_both (room - 1) (wide - 1) (omega (arith, less)) (omega (arith, wider)) words.scopes words.rest))
+        (both_choice (is_static_assert (kind_at ts)) _ _ _ _
+        (λ is. assert_both room wide wider.0 s ts _ is (λ it. all_left it.rest))
+        (λ off. both_bind _ _ _ _ (exts_both room wide wider.0 s ts) (λ exts.
+        both_behind _ _ _ _ (specs_here_both room wide less wider Typed exts.scopes exts.rest)
+        (λ words. both_bind _ _ _ _
+        (when (λ d. let two = specs_two Typed room exts.scopes exts.rest words d.1 in omega (arith, two))
+        (mem_declrs_both (room - 1) (wide - 1) (omega (arith, less)) (omega (arith, wider)) words.scopes words.rest))
         (λ ds. both_then _ _ _ (late_token is_semicolon ds.scopes ds.rest) (λ semi. ready _))))))
 
   module _ (room wide : ℕ) (less : room < suc n) (wider : Near gap room wide) where
@@ -180,24 +196,33 @@ module _ {S : Type 0} (n gap : ℕ) (inner other : Inner) (m : InnerBoth S n gap
     unfolding body_with members_with
     body_both tag s ts =
         both_if (is_open_brace (kind_at ts)) _ _ _ _
-        (both_then _ _ _ (late_take s ts) (λ opening. both_bind _ _ _ _ (both_repeated (λ kind. not (is_close_brace kind)) (struct_item_with inner (room - 1)) (struct_item_with other (wide - 1))
-        (λ s ts is. struct_item_both (room - 1) (wide - 1) (omega (arith, less)) (omega (arith, wider)) s ts) opening.scopes opening.rest)
+        (both_then _ _ _ (late_take s ts) (λ opening. both_bind _ _ _ _ (both_repeated
+        (λ kind. not (is_close_brace kind)) (struct_item_with inner (room - 1)) (struct_item_with other (wide - 1))
+        (λ s ts is. struct_item_both (room - 1) (wide - 1) (omega (arith, less))
+        (omega (arith, wider)) s ts) opening.scopes opening.rest)
         (λ items. both_then _ _ _ (late_token is_close_brace items.scopes items.rest) (λ closing. ready _))))
         (both_same _ (late_without tag _ s ts))
 
     -- behind the word
     struct_behind : {D : Type 0} (token : Found ℕ) (keyword : Keyword) → Both S D token.rest
-        (and_then (attrs_at room token.scopes token.rest) (λ attrs. and_then (tag_at attrs.scopes attrs.rest) (λ tag. and_then (body_with inner tag.tree room tag.scopes tag.rest) (λ body. ends (struct_type (word_of keyword token.tree) attrs.tree tag.tree body.tree) body.scopes body.rest))))
-        (and_then (attrs_at wide token.scopes token.rest) (λ attrs. and_then (tag_at attrs.scopes attrs.rest) (λ tag. and_then (body_with other tag.tree wide tag.scopes tag.rest) (λ body. ends (struct_type (word_of keyword token.tree) attrs.tree tag.tree body.tree) body.scopes body.rest))))
+        (and_then (attrs_at room token.scopes token.rest) (λ attrs.
+        and_then (tag_at attrs.scopes attrs.rest) (λ tag. and_then (body_with inner tag.tree room tag.scopes tag.rest)
+        (λ body. ends (struct_type (word_of keyword token.tree) attrs.tree tag.tree body.tree) body.scopes body.rest))))
+        (and_then (attrs_at wide token.scopes token.rest) (λ attrs.
+        and_then (tag_at attrs.scopes attrs.rest) (λ tag. and_then (body_with other tag.tree wide tag.scopes tag.rest)
+        (λ body. ends (struct_type (word_of keyword token.tree) attrs.tree tag.tree body.tree) body.scopes body.rest))))
     struct_behind token keyword =
-        both_bind _ _ _ _ (attrs_both room wide wider.0 token.scopes token.rest) (λ attrs. both_then _ _ _ (late_tag attrs.scopes attrs.rest)
+        both_bind _ _ _ _ (attrs_both room wide wider.0 token.scopes token.rest) (λ attrs.
+        both_then _ _ _ (late_tag attrs.scopes attrs.rest)
         (λ tag. both_bind _ _ _ _ (body_both tag.tree tag.scopes tag.rest) (λ body. ready _)))
 
     enumerator_behind_both : {D : Type 0} (name : Identifier) (s : HeldScopes) (ts : List Lexeme)
         → Both S D ts (enumerator_behind inner name room s ts) (enumerator_behind other name wide s ts)
     unfolding enumerator_behind
     enumerator_behind_both name s ts =
-        both_bind _ _ _ _ (attrs_both room wide wider.0 s ts) (λ attrs. both_bind _ _ _ _ (value_both room wide less wider is_equal attrs.scopes attrs.rest) (λ value. both_same _ (late_declared _ _ value.rest)))
+        both_bind _ _ _ _ (attrs_both room wide wider.0 s ts)
+        (λ attrs. both_bind _ _ _ _ (value_both room wide less wider is_equal attrs.scopes attrs.rest)
+        (λ value. both_same _ (late_declared _ _ value.rest)))
 
     enumerator_both : {D : Type 0} (s : HeldScopes) (ts : List Lexeme)
         → Both S D ts (enumerator_with inner room s ts) (enumerator_with other wide s ts)
@@ -205,17 +230,21 @@ module _ {S : Type 0} (n gap : ℕ) (inner other : Inner) (m : InnerBoth S n gap
     enumerator_both {D} s ts = by_tokens ts
       where
         by_name : (o : Option ℕ) (t : Lexeme) (ts : List Lexeme)
-            → Both S D (t ∷ ts) (and_then (name_by o t s ts) (λ name. enumerator_named inner name.tree room (t ∷ ts) name.scopes name.rest))
+            → Both S D (t ∷ ts)
+            (and_then (name_by o t s ts) (λ name. enumerator_named inner name.tree room (t ∷ ts) name.scopes name.rest))
             (and_then (name_by o t s ts) (λ name. enumerator_named other name.tree wide (t ∷ ts) name.scopes name.rest))
         by_name None t ts = refused _ (t ∷ ts)
         by_name (Some name) t ts =
             both_if (may_declare (innermost s) name Constant) _ _ _ _
             (both_if (is_name (innermost s).held name) _ _ _ _ (refused _ (t ∷ ts))
-            (both_fits 1 room wide (t ∷ ts) _ _ wider.0 (λ strict. (enumerator_behind_both {D = ⊥} _ s ts).late) (higher t ts _ _ (enumerator_behind_both _ s ts))))
+            (both_fits 1 room wide (t ∷ ts) _ _ wider.0 (λ strict. (enumerator_behind_both {D = ⊥} _ s ts).late)
+            (higher t ts _ _ (enumerator_behind_both _ s ts))))
             (refused _ (t ∷ ts))
 
         by_tokens : (ts : List Lexeme)
-            → Both S D ts (and_then (name_at s ts) (λ name. enumerator_named inner name.tree room ts name.scopes name.rest)) (and_then (name_at s ts) (λ name. enumerator_named other name.tree wide ts name.scopes name.rest))
+            → Both S D ts
+            (and_then (name_at s ts) (λ name. enumerator_named inner name.tree room ts name.scopes name.rest))
+            (and_then (name_at s ts) (λ name. enumerator_named other name.tree wide ts name.scopes name.rest))
         by_tokens [] = refused _ []
         by_tokens (t ∷ ts) = by_name (spelled_name t.kind) t ts
 
@@ -226,35 +255,48 @@ module _ {S : Type 0} (n gap : ℕ) (inner other : Inner) (m : InnerBoth S n gap
     enum_body_both tag s ts =
         both_if (is_open_brace (kind_at ts)) _ _ _ _
         (both_asks 2 room wide s ts _ _ wider.0
-        (λ opening. both_bind _ _ _ _ (both_listed (enumerator_with inner (room - 1)) (enumerator_with other (wide - 1)) (next_enumerator inner (room - 1)) (next_enumerator other (wide - 1)) opening.scopes opening.rest
-        (enumerator_both (room - 1) (wide - 1) (omega (arith, less)) (omega (arith, wider)) opening.scopes opening.rest) (λ x two is. two)
-        (λ comma s ts. both_if (is_close_brace (kind_at ts)) _ _ _ _ (ready _) (both_bind _ _ _ _ (enumerator_both (room - 1) (wide - 1) (omega (arith, less)) (omega (arith, wider)) s ts) (λ x. ready _))))
+        (λ opening. both_bind _ _ _ _ (both_listed (enumerator_with inner (room - 1)) (enumerator_with other (wide - 1))
+        (next_enumerator inner (room - 1)) (next_enumerator other (wide - 1)) opening.scopes opening.rest
+        (enumerator_both (room - 1) (wide - 1) (omega (arith, less)) (omega (arith, wider)) opening.scopes opening.rest)
+        (λ x two is. two)
+        (λ comma s ts. both_if (is_close_brace (kind_at ts)) _ _ _ _ (ready _) (both_bind _ _ _ _
+        (enumerator_both (room - 1) (wide - 1) (omega (arith, less)) (omega (arith, wider)) s ts) (λ x. ready _))))
         (λ es. both_then _ _ _ (late_token is_close_brace es.scopes es.rest) (λ closing. ready _))))
         (both_same _ (late_without tag _ s ts))
 
     enum_behind : {D : Type 0} (token : Found ℕ) → Both S D token.rest
-        (and_then (attrs_at room token.scopes token.rest) (λ attrs. and_then (tag_at attrs.scopes attrs.rest) (λ tag. and_then (enum_body_with inner tag.tree room tag.scopes tag.rest) (λ body. ends (enum_type (enum_of token.tree attrs.tree tag.tree body.tree)) body.scopes body.rest))))
-        (and_then (attrs_at wide token.scopes token.rest) (λ attrs. and_then (tag_at attrs.scopes attrs.rest) (λ tag. and_then (enum_body_with other tag.tree wide tag.scopes tag.rest) (λ body. ends (enum_type (enum_of token.tree attrs.tree tag.tree body.tree)) body.scopes body.rest))))
+        (and_then (attrs_at room token.scopes token.rest) (λ attrs. and_then (tag_at attrs.scopes attrs.rest) (λ tag.
+        and_then (enum_body_with inner tag.tree room tag.scopes tag.rest) (λ body.
+        ends (enum_type (enum_of token.tree attrs.tree tag.tree body.tree)) body.scopes body.rest))))
+        (and_then (attrs_at wide token.scopes token.rest) (λ attrs. and_then (tag_at attrs.scopes attrs.rest) (λ tag.
+        and_then (enum_body_with other tag.tree wide tag.scopes tag.rest) (λ body.
+        ends (enum_type (enum_of token.tree attrs.tree tag.tree body.tree)) body.scopes body.rest))))
     enum_behind token =
-        both_bind _ _ _ _ (attrs_both room wide wider.0 token.scopes token.rest) (λ attrs. both_then _ _ _ (late_tag attrs.scopes attrs.rest)
+        both_bind _ _ _ _ (attrs_both room wide wider.0 token.scopes token.rest) (λ attrs.
+        both_then _ _ _ (late_tag attrs.scopes attrs.rest)
         (λ tag. both_bind _ _ _ _ (enum_body_both tag.tree tag.scopes tag.rest) (λ body. ready _)))
 
   module _ (room wide : ℕ) (less : room < suc n) (wider : Near gap room wide) where
     -- types of values and types in parentheses, behind the word
 
     typed_word_both : (keyword : Keyword) (token opening : ℕ) (s : HeldScopes) (ts : List Lexeme)
-        → Both S (2 ≤ room) ts (typed_word_with inner keyword token opening room s ts) (typed_word_with other keyword token opening wide s ts)
+        → Both S (2 ≤ room) ts (typed_word_with inner keyword token opening room s ts)
+        (typed_word_with other keyword token opening wide s ts)
     unfolding typed_word_with
     typed_word_both keyword token opening s ts =
-        both_bind _ _ _ _ (when (λ two. (omega (arith, less, two), omega (arith, two))) (m.types (room - 1) (wide - 1) (omega (arith, wider)) s ts)) (λ t. both_then _ _ _ (late_token is_close_paren t.scopes t.rest) (λ closing. ready _))
+        both_bind _ _ _ _ (when (λ two. (omega (arith, less, two), omega (arith, two)))
+        (m.types (room - 1) (wide - 1) (omega (arith, wider)) s ts))
+        (λ t. both_then _ _ _ (late_token is_close_paren t.scopes t.rest) (λ closing. ready _))
 
     typeof_both : (s : HeldScopes) (ts : List Lexeme)
         → Ahead S (2 ≤ room) ts (typeof_with inner room s ts) (typeof_with other wide s ts)
     unfolding typeof_with typeof_value_with
     typeof_both s ts =
         ahead_take s ts _ _ (λ keyword. both_then _ _ _ (late_token is_open_paren keyword.scopes keyword.rest)
-        (λ opening. both_if (begins_specs opening.scopes (kind_at opening.rest)) _ _ _ _ (typed_word_both _ keyword.tree opening.tree opening.scopes opening.rest)
-        (both_bind _ _ _ _ (when (λ two. omega (arith, less, two)) (m.exprs Whole nothing (room - 1) (wide - 1) (omega (arith, wider)) opening.scopes opening.rest))
+        (λ opening. both_if (begins_specs opening.scopes (kind_at opening.rest)) _ _ _ _
+        (typed_word_both _ keyword.tree opening.tree opening.scopes opening.rest)
+        (both_bind _ _ _ _ (when (λ two. omega (arith, less, two))
+        (m.exprs Whole nothing (room - 1) (wide - 1) (omega (arith, wider)) opening.scopes opening.rest))
         (λ e. both_then _ _ _ (late_token is_close_paren e.scopes e.rest) (λ closing. ready _)))))
 
     atomic_both : (s : HeldScopes) (ts : List Lexeme)
@@ -276,12 +318,20 @@ module _ {S : Type 0} (n gap : ℕ) (inner other : Inner) (m : InnerBoth S n gap
     word_by_both starts.Element s ts = both_then _ _ _ (late_take s ts) (λ token. ready _)
     word_by_both starts.Index s ts = both_then _ _ _ (late_take s ts) (λ token. ready _)
     word_by_both (starts.Basic keyword) s ts = both_then _ _ _ (late_take s ts) (λ token. ready _)
-    word_by_both (starts.Struct keyword) s ts = both_then _ _ _ (late_take s ts) (λ token. struct_behind (room - 1) (wide - 1) (omega (arith, less)) (omega (arith, wider)) token keyword)
-    word_by_both starts.Enum s ts = both_then _ _ _ (late_take s ts) (λ token. enum_behind (room - 1) (wide - 1) (omega (arith, less)) (omega (arith, wider)) token)
+    word_by_both (starts.Struct keyword) s ts =
+        both_then _ _ _ (late_take s ts)
+        (λ token. struct_behind (room - 1) (wide - 1) (omega (arith, less)) (omega (arith, wider)) token keyword)
+    word_by_both starts.Enum s ts =
+        both_then _ _ _ (late_take s ts)
+        (λ token. enum_behind (room - 1) (wide - 1) (omega (arith, less)) (omega (arith, wider)) token)
     word_by_both starts.Attribute s ts = both_then _ _ _ (late_attr s ts) (λ attr. ready _)
     word_by_both (starts.Name name) s ts = both_then _ _ _ (late_take s ts) (λ token. ready _)
-    word_by_both starts.Typeof s ts = when (λ fit. omega (arith, fit)) (typeof_both (room - 1) (wide - 1) (omega (arith, less)) (omega (arith, wider)) s ts).both
-    word_by_both starts.Atomic s ts = when (λ fit. omega (arith, fit)) (atomic_both (room - 1) (wide - 1) (omega (arith, less)) (omega (arith, wider)) s ts).both
+    word_by_both starts.Typeof s ts =
+        when (λ fit. omega (arith, fit))
+        (typeof_both (room - 1) (wide - 1) (omega (arith, less)) (omega (arith, wider)) s ts).both
+    word_by_both starts.Atomic s ts =
+        when (λ fit. omega (arith, fit))
+        (atomic_both (room - 1) (wide - 1) (omega (arith, less)) (omega (arith, wider)) s ts).both
     word_by_both starts.Align s ts = both_then _ _ _ (late_align s ts) (λ attr. ready _)
     word_by_both starts.Auto s ts = both_then _ _ _ (late_take s ts) (λ token. ready _)
     word_by_both starts.Nothing s ts = refused _ ts
@@ -299,25 +349,37 @@ module _ {S : Type 0} (n gap : ℕ) (inner other : Inner) (m : InnerBoth S n gap
     word_by_past kind starts.Element s ts is at = past_take s ts _ (λ token. all_left token.rest)
     word_by_past kind starts.Index s ts is at = past_take s ts _ (λ token. all_left token.rest)
     word_by_past kind (starts.Basic keyword) s ts is at = past_take s ts _ (λ token. all_left token.rest)
-    word_by_past kind (starts.Struct keyword) s ts is at = past_take s ts _ (λ token. (struct_behind (room - 1) (wide - 1) (omega (arith, less)) (omega (arith, wider)) {D = ⊥} token keyword).late)
-    word_by_past kind starts.Enum s ts is at = past_take s ts _ (λ token. (enum_behind (room - 1) (wide - 1) (omega (arith, less)) (omega (arith, wider)) {D = ⊥} token).late)
-    word_by_past kind starts.Attribute s ts is at = late_bind (behind_first ts) _ _ (past_attr s ts (at refl)) (λ attr. all_left attr.rest)
+    word_by_past kind (starts.Struct keyword) s ts is at =
+        past_take s ts _ (λ token.
+        (struct_behind (room - 1) (wide - 1) (omega (arith, less)) (omega (arith, wider)) {D = ⊥} token keyword).late)
+    word_by_past kind starts.Enum s ts is at =
+        past_take s ts _
+        (λ token. (enum_behind (room - 1) (wide - 1) (omega (arith, less)) (omega (arith, wider)) {D = ⊥} token).late)
+    word_by_past kind starts.Attribute s ts is at =
+        late_bind (behind_first ts) _ _ (past_attr s ts (at refl)) (λ attr. all_left attr.rest)
     word_by_past kind (starts.Name name) s ts is at = past_take s ts _ (λ token. all_left token.rest)
-    word_by_past kind starts.Typeof s ts is at = (typeof_both (room - 1) (wide - 1) (omega (arith, less)) (omega (arith, wider)) s ts).past
-    word_by_past kind starts.Atomic s ts is at = (atomic_both (room - 1) (wide - 1) (omega (arith, less)) (omega (arith, wider)) s ts).past
-    word_by_past kind starts.Align s ts is at = late_bind (behind_first ts) _ _ (past_align s ts) (λ attr. all_left attr.rest)
+    word_by_past kind starts.Typeof s ts is at =
+        (typeof_both (room - 1) (wide - 1) (omega (arith, less)) (omega (arith, wider)) s ts).past
+    word_by_past kind starts.Atomic s ts is at =
+        (atomic_both (room - 1) (wide - 1) (omega (arith, less)) (omega (arith, wider)) s ts).past
+    word_by_past kind starts.Align s ts is at =
+        late_bind (behind_first ts) _ _ (past_align s ts) (λ attr. all_left attr.rest)
     word_by_past kind starts.Auto s ts is at = past_take s ts _ (λ token. all_left token.rest)
     word_by_past kind starts.Nothing s ts is at = absurd cc
 
     -- one turn, and those behind it
     turn_both : {D : Type 0} (role : Role) (words : SpecWords) (start : SpecStart) (s : HeldScopes) (ts : List Lexeme)
         → (is_start start ≡ true) → (start ≡ starts.Attribute → is_attribute (kind_at ts) ≡ true) →
-        Both S D ts (and_then (word_with inner role words start room s ts) (λ word. ends (pushed words word.tree) word.scopes word.rest)) (and_then (word_with other role words start wide s ts) (λ word. ends (pushed words word.tree) word.scopes word.rest))
+        Both S D ts (and_then (word_with inner role words start room s ts)
+        (λ word. ends (pushed words word.tree) word.scopes word.rest)) (and_then
+        (word_with other role words start wide s ts) (λ word. ends (pushed words word.tree) word.scopes word.rest))
     unfolding word_with
     turn_both role words start s ts is at =
         both_bind _ _ _ _
         (both_if (may_stand role start) _ _ _ _ (both_if (goes_on words (class_of_start start)) _ _ _ _
-        (both_fits (max (least_of start) (specs_height words)) room wide ts _ _ wider.0 (λ strict. word_by_past (kind_at ts) start s ts is at) (when (λ fit. omega (arith, fit)) (word_by_both start s ts))) (refused _ ts)) (refused _ ts))
+        (both_fits (max (least_of start) (specs_height words)) room wide ts _ _ wider.0
+        (λ strict. word_by_past (kind_at ts) start s ts is at)
+        (when (λ fit. omega (arith, fit)) (word_by_both start s ts))) (refused _ ts)) (refused _ ts))
         (λ word. ready _)
 
     words_both : {D : Type 0} (role : Role) (words : SpecWords) (s : HeldScopes) (ts : List Lexeme)
@@ -325,7 +387,8 @@ module _ {S : Type 0} (n gap : ℕ) (inner other : Inner) (m : InnerBoth S n gap
     words_both {D} role words s ts =
         both_run (word_turn inner role room) (word_turn other role wide)
         (λ words s ts. both_unless S D ts (ends_before s words (start_at s (is_typed words) (kind_at ts))) _ _
-        (both_guarded (is_start (start_at s (is_typed words) (kind_at ts))) _ _ (λ is. turn_both role words (start_at s (is_typed words) (kind_at ts)) s ts is (attribute_at s (is_typed words) (kind_at ts))))) words s ts
+        (both_guarded (is_start (start_at s (is_typed words) (kind_at ts))) _ _ (λ is. turn_both role words
+        (start_at s (is_typed words) (kind_at ts)) s ts is (attribute_at s (is_typed words) (kind_at ts))))) words s ts
 
     late_whole : (words : SpecWords) (s : HeldScopes) (ts : List Lexeme) → Late ts (whole other words s ts)
     late_whole words s ts = late_if ts (is_whole_mix words) _ _ (λ is. all_left ts) (λ is. inr (late_refused ts))
@@ -333,7 +396,8 @@ module _ {S : Type 0} (n gap : ℕ) (inner other : Inner) (m : InnerBoth S n gap
     pub specs_both : {D : Type 0} (role : Role) (words : SpecWords) (s : HeldScopes) (ts : List Lexeme)
         → Both S D ts (specs_with inner role words room s ts) (specs_with other role words wide s ts)
     unfolding specs_with
-    specs_both role words s ts = both_bind _ _ _ _ (words_both role words s ts) (λ all. both_same _ (late_whole all.tree all.scopes all.rest))
+    specs_both role words s ts =
+        both_bind _ _ _ _ (words_both role words s ts) (λ all. both_same _ (late_whole all.tree all.scopes all.rest))
 
     -- specifiers take the token that begins them, which may stand there
     first_word_past : (role : Role) (s : HeldScopes) (ts : List Lexeme) → begins_specs s (kind_at ts) ≡ true
@@ -343,8 +407,11 @@ module _ {S : Type 0} (n gap : ℕ) (inner other : Inner) (m : InnerBoth S n gap
     first_word_past role s ts is stands =
         late_if (behind_first ts) (may_stand role (start_at s false (kind_at ts))) _ _
         (λ on. late_if (behind_first ts) (goes_on no_words (class_of_start (start_at s false (kind_at ts)))) _ _
-        (λ on. late_fits (max (least_of (start_at s false (kind_at ts))) (specs_height no_words)) wide ts (behind_first ts) _ (word_by_past (kind_at ts) (start_at s false (kind_at ts)) s ts is (attribute_at s false (kind_at ts))))
-        (λ off. absurd (both_ways (goes_on no_words (class_of_start (start_at s false (kind_at ts)))) (first_goes s (kind_at ts) is) off)))
+        (λ on. late_fits (max (least_of (start_at s false (kind_at ts))) (specs_height no_words)) wide ts
+        (behind_first ts) _
+        (word_by_past (kind_at ts) (start_at s false (kind_at ts)) s ts is (attribute_at s false (kind_at ts))))
+        (λ off. absurd (both_ways (goes_on no_words (class_of_start (start_at s false (kind_at ts))))
+        (first_goes s (kind_at ts) is) off)))
         (λ off. absurd (both_ways (may_stand role (start_at s false (kind_at ts))) stands off))
       where
         both_ways : (b : Bool) → b ≡ true → b ≡ false → ⊥
@@ -357,9 +424,12 @@ module _ {S : Type 0} (n gap : ℕ) (inner other : Inner) (m : InnerBoth S n gap
     specs_past role s ts both =
         late_bind (behind_first ts) _ _
         (past_run (word_turn other role wide) (λ words s ts. turn_late words s ts) (behind_first ts) no_words s ts
-        (and_then (word_with other role no_words (start_at s false (kind_at ts)) wide s ts) (λ word. ends (pushed no_words word.tree) word.scopes word.rest))
-        (guarded (ends_before s no_words (start_at s false (kind_at ts))) (is_start (start_at s false (kind_at ts))) (none_end s (start_at s false (kind_at ts))) (front is_one))
-        (late_bind (behind_first ts) _ _ (first_word_past role s ts (front is_one) (back is_one)) (λ word. all_left word.rest)))
+        (and_then (word_with other role no_words (start_at s false (kind_at ts)) wide s ts)
+        (λ word. ends (pushed no_words word.tree) word.scopes word.rest))
+        (guarded (ends_before s no_words (start_at s false (kind_at ts))) (is_start (start_at s false (kind_at ts)))
+        (none_end s (start_at s false (kind_at ts))) (front is_one))
+        (late_bind (behind_first ts) _ _ (first_word_past role s ts (front is_one) (back is_one))
+        (λ word. all_left word.rest)))
         (λ all. late_whole all.tree all.scopes all.rest)
       where
         is_one : (begins_specs s (kind_at ts) ≡ true) × (may_stand role (start_at s false (kind_at ts)) ≡ true)
@@ -388,8 +458,11 @@ module _ {S : Type 0} (n gap : ℕ) (inner other : Inner) (m : InnerBoth S n gap
             by false = refl
 
         guarded : (a b : Bool) → a ≡ false → b ≡ true →
-            (if a then None else if b then Some (and_then (word_with other role no_words (start_at s false (kind_at ts)) wide s ts) (λ word. ends (pushed no_words word.tree) word.scopes word.rest)) else None)
-            ≡ Some (and_then (word_with other role no_words (start_at s false (kind_at ts)) wide s ts) (λ word. ends (pushed no_words word.tree) word.scopes word.rest))
+            (if a then None else if b
+            then Some (and_then (word_with other role no_words (start_at s false (kind_at ts)) wide s ts)
+            (λ word. ends (pushed no_words word.tree) word.scopes word.rest)) else None)
+            ≡ Some (and_then (word_with other role no_words (start_at s false (kind_at ts)) wide s ts)
+            (λ word. ends (pushed no_words word.tree) word.scopes word.rest))
         guarded false true g h = refl
         guarded false false g h = absurd cc
         guarded true b g h = absurd cc
@@ -399,4 +472,5 @@ module _ {S : Type 0} (n gap : ℕ) (inner other : Inner) (m : InnerBoth S n gap
         turn_late words s ts =
             both_unless ⊥ ⊥ ts (ends_before s words (start_at s (is_typed words) (kind_at ts))) _ _
             (both_guarded (is_start (start_at s (is_typed words) (kind_at ts))) _ _
-            (λ is. both_same _ (turn_both {D = ⊥} role words (start_at s (is_typed words) (kind_at ts)) s ts is (attribute_at s (is_typed words) (kind_at ts))).late))
+            (λ is. both_same _ (turn_both {D = ⊥} role words (start_at s (is_typed words) (kind_at ts)) s ts is
+            (attribute_at s (is_typed words) (kind_at ts))).late))

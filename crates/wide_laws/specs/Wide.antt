@@ -5,7 +5,7 @@ use Rattle.c_tree.specs.declared.lexeme.Lexeme.{Lexeme}
 use Rattle.c_tree.specs.Tree.{SpecWords, no_words}
 use Rattle.typedef_scope.specs.declared.kind.Kind.{Kind}
 use Rattle.c_units.specs.HeldScopes.{HeldScopes}
-use Rattle.c_reading.specs.declared.kinds.Fault.TheVariants.{TooDeep}
+use Rattle.c_reading.specs.declared.kinds.FaultKind.TheVariants.{TooDeep}
 use Rattle.c_reading.specs.declared.kinds.Reach.{Reach}
 use Rattle.c_reading.specs.declared.kinds.Reach.TheVariants.{Whole, Assigned, Unary}
 use Rattle.c_reading.specs.declared.kinds.Role.{Role}
@@ -78,7 +78,8 @@ pub record InnerBoth (S : Type 0) (n gap : ℕ) (inner other : Inner) : Type 0 w
       → Both S (room < n) ts (inner.specs role words room s ts) (other.specs role words wide s ts)
   pub declrs : (mode : Mode) (wanted : Option Kind) (flag : Bool) (room wide : ℕ) → Near gap room wide
       → (s : HeldScopes) (ts : List Lexeme) →
-      Both S (number_of flag room < n) ts (inner.declr mode wanted flag room s ts) (other.declr mode wanted flag wide s ts)
+      Both S (number_of flag room < n) ts (inner.declr mode wanted flag room s ts)
+      (other.declr mode wanted flag wide s ts)
   pub lists : (room wide : ℕ) → Near gap room wide → (s : HeldScopes) (ts : List Lexeme)
       → Both S (room < n) ts (inner.init_list room s ts) (other.init_list wide s ts)
   pub blocks : (room wide : ℕ) → Near gap room wide → (s : HeldScopes) (ts : List Lexeme)
@@ -100,8 +101,8 @@ pub record InnerBoth (S : Type 0) (n gap : ℕ) (inner other : Inner) : Type 0 w
       → is_open_brace (kind_at ts) ≡ true → Late (behind_first ts) (other.init_list wide s ts)
 
 -- what is answered with some room is answered with more; and what is refused is refused alike, or, where that is for
--- the height, something
--- behind it is read or refused, or it is for the height again
+-- the height, something behind it is read or refused, or it is for the height again
 abbrev pub WithMoreRoomItPasses : Type 0
 WithMoreRoomItPasses =
-    (room wide : ℕ) → 1 ≤ room → room < wide → (dialect : Bool) (all : List Lexeme) → Passes all (unit_of room dialect all) (unit_of wide dialect all)
+    (room wide : ℕ) → 1 ≤ room → room < wide → (dialect : Bool) (all : List Lexeme)
+    → Passes all (unit_of room dialect all) (unit_of wide dialect all)

@@ -13,11 +13,11 @@ use Rattle.c_reading.specs.Stating.{declr_behind, declrs_with, declaration_behin
 use Rattle.c_reading.specs.Tokens.{assert_at}
 use Rattle.c_reading.specs.Turns.{no_end}
 use Rattle.reader_base.specs.declared.fault.ReadError.{ReadError}
-use Rattle.reader_base.specs.declared.place.Place.{Place}
+use Rattle.reader_base.specs.declared.cursor.Cursor.{Cursor}
 use Rattle.reader_base.specs.Gives.{Reads}
 
 -- an item of a unit is read as the reader of lists gives it
-abbrev pub ReadsItem : Place → Place → Result rust_item.Item ReadError → Reader Item → Type 0
+abbrev pub ReadsItem : Cursor → Cursor → Result rust_item.Item ReadError → Reader Item → Type 0
 ReadsItem before after result reader = Reads item_of before after result reader
 
 -- a declaration of values whose first declarator has attributes behind it, or behind which a label may stand
@@ -38,7 +38,8 @@ declaration_item_with depth exts words room s ts = as_decl (declaration_behind (
 
 -- a semicolon alone
 abbrev pub semi_with : ℕ → Reader Item
-semi_with room s ts = fits 1 room ts (take_one s ts >>= λ semi. ends (semi_item (record { token = semi.tree })) semi.scopes semi.rest)
+semi_with room s ts =
+    fits 1 room ts (take_one s ts >>= λ semi. ends (semi_item (record { token = semi.tree })) semi.scopes semi.rest)
 
 -- AsmDecl = asm bal ;
 abbrev pub asm_with : ℕ → ℕ → Reader Item
@@ -46,7 +47,8 @@ asm_with depth room s ts = fits 1 room ts (asm_item_with (knot depth) s ts)
 
 -- a `_Static_assert` as an item of a unit
 abbrev pub assert_with : ℕ → Reader Item
-assert_with room s ts = fits 1 room ts (assert_at s ts >>= λ it. ends (decl_item (decl_assert it.tree)) it.scopes it.rest)
+assert_with room s ts =
+    fits 1 room ts (assert_at s ts >>= λ it. ends (decl_item (decl_assert it.tree)) it.scopes it.rest)
 
 -- the items so far, as the state of the loop over them
 abbrev pub known_items : List rust_item.Item → List Item

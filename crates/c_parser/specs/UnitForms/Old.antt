@@ -8,7 +8,7 @@ use Rattle.c_reading.specs.Knot.{knot}
 use Rattle.c_reading.specs.Reading.{Reader, Turn, repeated_turn}
 use Rattle.c_reading.specs.Tokens.{is_open_brace}
 use Rattle.reader_base.specs.declared.fault.ReadError.{ReadError}
-use Rattle.reader_base.specs.declared.place.Place.{Place}
+use Rattle.reader_base.specs.declared.cursor.Cursor.{Cursor}
 use Rattle.reader_base.specs.Gives.{Reads}
 use Rattle.std.specs.Global.{Vec}
 
@@ -17,7 +17,7 @@ abbrev pub known_declarations : List rust_declaration.Declaration → List Decla
 known_declarations ds = map declaration_of ds
 
 -- the declarations behind a list of identifiers are read as the reader of lists gives them
-abbrev pub ReadsDeclarations : Place → Place → Result (Vec rust_declaration.Declaration) ReadError
+abbrev pub ReadsDeclarations : Cursor → Cursor → Result (Vec rust_declaration.Declaration) ReadError
     → Reader (List Declaration) → Type 0
 ReadsDeclarations before after result reader = Reads (λ ds. known_declarations ds.items) before after result reader
 

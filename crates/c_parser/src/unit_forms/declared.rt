@@ -13,7 +13,7 @@ use c_syntax::{Attr, Item};
 use decl_forms::{declaration_behind, declaration_on, declr_behind, some_init_here};
 use decl_nodes::{declaration_item, init_declr};
 use qual_base::TokenId;
-use reader_base::{Answer, Ask, Place, ReadError};
+use reader_base::{Answer, Ask, Cursor, ReadError};
 
 /// `[= init]`, behind a declarator and attributes.
 #[tactic(auto, unfolding(c_reading::specs::Items::attrs_behind, c_reading::specs::Reading::and_then))]
@@ -22,17 +22,17 @@ fn behind_attrs<'a, F>(
     declr: PresentDeclr,
     attrs: Vec<Attr>,
     room: u16,
-    place: &mut Place<'a>,
+    cursor: &mut Cursor<'a>,
     depth: u32,
 ) -> Result<SizedInitDeclr, ReadError>
 where
-    F: Fn(Ask, &mut Place<'a>) -> Result<Answer, ReadError>,
+    F: Fn(Ask, &mut Cursor<'a>) -> Result<Answer, ReadError>,
     requires { Lends F.Fn lent.now depth }
-    ensures { listed.ReadsItem place.old place.new result
+    ensures { listed.ReadsItem cursor.old cursor.new result
         (attrs_behind (knot depth) (declr_of declr.declr.value) attrs.items room) }
 {
-    let init = some_init_here(lent, room, place, depth)?;
-    let before = Vec::new(place.alloc);
+    let init = some_init_here(lent, room, cursor, depth)?;
+    let before = Vec::new(cursor.alloc);
     Ok(init_declr(before, declr, None, attrs, init))
 }
 
@@ -45,18 +45,18 @@ pub(crate) fn declaration_with_attrs<'a, F>(
     declr: PresentDeclr,
     attrs: Vec<Attr>,
     room: u16,
-    place: &mut Place<'a>,
+    cursor: &mut Cursor<'a>,
     depth: u32,
 ) -> Result<Item, ReadError>
 where
-    F: Fn(Ask, &mut Place<'a>) -> Result<Answer, ReadError>,
+    F: Fn(Ask, &mut Cursor<'a>) -> Result<Answer, ReadError>,
     requires { Lends F.Fn lent.now depth }
-    ensures { ReadsItem place.old place.new result (with_attrs depth exts.items
+    ensures { ReadsItem cursor.old cursor.new result (with_attrs depth exts.items
         (sized_specs words) (declr_of declr.declr.value) attrs.items room) }
 {
-    let first = behind_attrs(lent, declr, attrs, room.saturating_sub(1), place, depth)?;
-    let found = declaration_on(lent, exts, words, first, room, place, depth)?;
-    Ok(declaration_item(place.alloc, found)?)
+    let first = behind_attrs(lent, declr, attrs, room.saturating_sub(1), cursor, depth)?;
+    let found = declaration_on(lent, exts, words, first, room, cursor, depth)?;
+    Ok(declaration_item(cursor.alloc, found)?)
 }
 
 /// A declaration, behind its words and its first declarator.
@@ -67,19 +67,19 @@ pub(crate) fn declaration_with_label<'a, F>(
     words: SizedSpecs,
     declr: PresentDeclr,
     room: u16,
-    place: &mut Place<'a>,
+    cursor: &mut Cursor<'a>,
     depth: u32,
 ) -> Result<Item, ReadError>
 where
-    F: Fn(Ask, &mut Place<'a>) -> Result<Answer, ReadError>,
+    F: Fn(Ask, &mut Cursor<'a>) -> Result<Answer, ReadError>,
     requires { Lends F.Fn lent.now depth }
-    ensures { ReadsItem place.old place.new result (with_label depth exts.items
+    ensures { ReadsItem cursor.old cursor.new result (with_label depth exts.items
         (sized_specs words) (declr_of declr.declr.value) room) }
 {
-    let before = Vec::new(place.alloc);
-    let first = declr_behind(lent, before, declr, room.saturating_sub(1), place, depth)?;
-    let found = declaration_on(lent, exts, words, first, room, place, depth)?;
-    Ok(declaration_item(place.alloc, found)?)
+    let before = Vec::new(cursor.alloc);
+    let first = declr_behind(lent, before, declr, room.saturating_sub(1), cursor, depth)?;
+    let found = declaration_on(lent, exts, words, first, room, cursor, depth)?;
+    Ok(declaration_item(cursor.alloc, found)?)
 }
 
 /// A declaration, behind its words.
@@ -89,15 +89,15 @@ pub(crate) fn declaration_here<'a, F>(
     exts: Vec<TokenId>,
     words: SizedSpecs,
     room: u16,
-    place: &mut Place<'a>,
+    cursor: &mut Cursor<'a>,
     depth: u32,
 ) -> Result<Item, ReadError>
 where
-    F: Fn(Ask, &mut Place<'a>) -> Result<Answer, ReadError>,
+    F: Fn(Ask, &mut Cursor<'a>) -> Result<Answer, ReadError>,
     requires { Lends F.Fn lent.now depth }
-    ensures { ReadsItem place.old place.new result
+    ensures { ReadsItem cursor.old cursor.new result
         (declaration_item_with depth exts.items (sized_specs words) room) }
 {
-    let found = declaration_behind(lent, exts, words, room, place, depth)?;
-    Ok(declaration_item(place.alloc, found)?)
+    let found = declaration_behind(lent, exts, words, room, cursor, depth)?;
+    Ok(declaration_item(cursor.alloc, found)?)
 }

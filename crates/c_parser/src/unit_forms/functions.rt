@@ -11,25 +11,25 @@ ghost use Rattle.c_parser.specs.UnitForms.Listed.{ReadsItem};
 use crate::unit_forms::declared::{declaration_with_attrs, declaration_with_label};
 use crate::unit_forms::old::{lists_identifiers, old_function};
 use c_nodes::{PresentDeclr, SizedSpecs, above};
-use c_reading::{Fault, Mode};
+use c_reading::{FaultKind, Mode};
 use c_syntax::{Attr, Item};
 use decl_nodes::function_item;
 use held_scopes::Closed;
 use qual_base::TokenId;
 use reader_base::{
-    Answer, Ask, Place, ReadError, attrs, declr_inside, is_asm, is_comma, is_equal, is_open_brace,
+    Answer, Ask, Cursor, ReadError, attrs, declr_inside, is_asm, is_comma, is_equal, is_open_brace,
     is_semicolon, kind_at, known_declr, refused, room_above,
 };
 use stmt_forms::block_body;
 use typedef_scope::Kind;
 
 /// Whether a declaration goes on here, behind a declarator and attributes.
-fn goes_on_declared(place: &Place) -> bool
-    ensures { result ≡ units.goes_on_declared (kind_at place.now.rest.now) }
+fn goes_on_declared(cursor: &Cursor) -> bool
+    ensures { result ≡ units.goes_on_declared (kind_at cursor.now.rest.now) }
 {
-    is_equal(kind_at(place.rest))
-        || is_comma(kind_at(place.rest))
-        || is_semicolon(kind_at(place.rest))
+    is_equal(kind_at(cursor.rest))
+        || is_comma(kind_at(cursor.rest))
+        || is_semicolon(kind_at(cursor.rest))
 }
 
 /// The body of a function, behind its declarator and attributes, in the scope of its parameters.
@@ -42,18 +42,18 @@ fn function_here<'a, F>(
     attrs: Vec<Attr>,
     closed: Closed,
     room: u16,
-    place: &mut Place<'a>,
+    cursor: &mut Cursor<'a>,
     depth: u32,
 ) -> Result<Item, ReadError>
 where
-    F: Fn(Ask, &mut Place<'a>) -> Result<Answer, ReadError>,
+    F: Fn(Ask, &mut Cursor<'a>) -> Result<Answer, ReadError>,
     requires { Lends F.Fn lent.now depth }
-    ensures { ReadsItem place.old place.new result (units.function_with (knot depth) exts.items
+    ensures { ReadsItem cursor.old cursor.new result (units.function_with (knot depth) exts.items
         (sized_specs words) (declr_of declr.declr.value) attrs.items closed room) }
 {
-    place.scopes.reopen(closed)?;
-    let body = block_body(lent, room.saturating_sub(1), place, depth)?;
-    place.scopes.leave();
+    cursor.scopes.reopen(closed)?;
+    let body = block_body(lent, room.saturating_sub(1), cursor, depth)?;
+    cursor.scopes.leave();
     Ok(function_item(exts, words, declr, attrs, body))
 }
 
@@ -68,23 +68,23 @@ fn function_or_not<'a, F>(
     attrs: Vec<Attr>,
     closed: Closed,
     room: u16,
-    place: &mut Place<'a>,
+    cursor: &mut Cursor<'a>,
     depth: u32,
 ) -> Result<Item, ReadError>
 where
-    F: Fn(Ask, &mut Place<'a>) -> Result<Answer, ReadError>,
+    F: Fn(Ask, &mut Cursor<'a>) -> Result<Answer, ReadError>,
     requires { Lends F.Fn lent.now depth }
-    ensures { ReadsItem place.old place.new result (units.function_or_not (knot depth) exts.items
+    ensures { ReadsItem cursor.old cursor.new result (units.function_or_not (knot depth) exts.items
         (sized_specs words) (declr_of declr.declr.value) attrs.items closed room) }
 {
-    if is_open_brace(kind_at(place.rest)) {
-        return function_here(lent, exts, words, declr, attrs, closed, room, place, depth);
+    if is_open_brace(kind_at(cursor.rest)) {
+        return function_here(lent, exts, words, declr, attrs, closed, room, cursor, depth);
     }
-    if goes_on_declared(place) {
-        room_above(above(declr.height), room, place)?;
-        return declaration_with_attrs(lent, exts, words, declr, attrs, room, place, depth);
+    if goes_on_declared(cursor) {
+        room_above(above(declr.height), room, cursor)?;
+        return declaration_with_attrs(lent, exts, words, declr, attrs, room, cursor, depth);
     }
-    Err(refused(Fault::Unexpected, place.rest))
+    Err(refused(FaultKind::Unexpected, cursor.rest))
 }
 
 /// What stands behind a declarator with parameters directly around its name.
@@ -96,21 +96,21 @@ fn behind_function<'a, F>(
     declr: PresentDeclr,
     closed: Closed,
     room: u16,
-    place: &mut Place<'a>,
+    cursor: &mut Cursor<'a>,
     depth: u32,
 ) -> Result<Item, ReadError>
 where
-    F: Fn(Ask, &mut Place<'a>) -> Result<Answer, ReadError>,
+    F: Fn(Ask, &mut Cursor<'a>) -> Result<Answer, ReadError>,
     requires { Lends F.Fn lent.now depth }
-    ensures { ReadsItem place.old place.new result (units.behind_function (knot depth) exts.items
+    ensures { ReadsItem cursor.old cursor.new result (units.behind_function (knot depth) exts.items
         (sized_specs words) (declr_of declr.declr.value) closed room) }
 {
-    if is_asm(kind_at(place.rest)) {
-        room_above(above(declr.height), room, place)?;
-        return declaration_with_label(lent, exts, words, declr, room, place, depth);
+    if is_asm(kind_at(cursor.rest)) {
+        room_above(above(declr.height), room, cursor)?;
+        return declaration_with_label(lent, exts, words, declr, room, cursor, depth);
     }
-    let attrs = attrs(room, place)?;
-    function_or_not(lent, exts, words, declr, attrs, closed, room, place, depth)
+    let attrs = attrs(room, cursor)?;
+    function_or_not(lent, exts, words, declr, attrs, closed, room, cursor, depth)
 }
 
 /// What stands behind the first declarator.
@@ -121,18 +121,18 @@ fn behind_declr<'a, F>(
     declr: PresentDeclr,
     closed: Option<Closed>,
     room: u16,
-    place: &mut Place<'a>,
+    cursor: &mut Cursor<'a>,
     depth: u32,
 ) -> Result<Item, ReadError>
 where
-    F: Fn(Ask, &mut Place<'a>) -> Result<Answer, ReadError>,
+    F: Fn(Ask, &mut Cursor<'a>) -> Result<Answer, ReadError>,
     requires { Lends F.Fn lent.now depth }
-    ensures { ReadsItem place.old place.new result (units.behind_declr (knot depth) exts.items
+    ensures { ReadsItem cursor.old cursor.new result (units.behind_declr (knot depth) exts.items
         (sized_specs words) (declr_of declr.declr.value) closed room) }
 {
     match closed {
-        Some(closed) => behind_function(lent, exts, words, declr, closed, room, place, depth),
-        None => declaration_with_label(lent, exts, words, declr, room, place, depth),
+        Some(closed) => behind_function(lent, exts, words, declr, closed, room, cursor, depth),
+        None => declaration_with_label(lent, exts, words, declr, room, cursor, depth),
     }
 }
 
@@ -143,13 +143,13 @@ pub(crate) fn first_declr<'a, F>(
     exts: Vec<TokenId>,
     words: SizedSpecs,
     room: u16,
-    place: &mut Place<'a>,
+    cursor: &mut Cursor<'a>,
     depth: u32,
 ) -> Result<Item, ReadError>
 where
-    F: Fn(Ask, &mut Place<'a>) -> Result<Answer, ReadError>,
+    F: Fn(Ask, &mut Cursor<'a>) -> Result<Answer, ReadError>,
     requires { Lends F.Fn lent.now depth }
-    ensures { ReadsItem place.old place.new result
+    ensures { ReadsItem cursor.old cursor.new result
         (units.first_declr (knot depth) exts.items (sized_specs words) room) }
 {
     let below = room.saturating_sub(2);
@@ -159,14 +159,14 @@ where
         Some(Kind::Value),
         true,
         below,
-        place,
+        cursor,
         depth,
     )?;
     let closed = found.closed;
-    let declr = known_declr(found.declr, place)?;
+    let declr = known_declr(found.declr, cursor)?;
     if lists_identifiers(&declr.declr) {
-        return old_function(lent, exts, words, declr, room, place, depth);
+        return old_function(lent, exts, words, declr, room, cursor, depth);
     }
-    place.scopes.release(Kind::Value)?;
-    behind_declr(lent, exts, words, declr, closed, room, place, depth)
+    cursor.scopes.release(Kind::Value)?;
+    behind_declr(lent, exts, words, declr, closed, room, cursor, depth)
 }

@@ -20,7 +20,7 @@ use decl_forms::declaration_behind;
 use decl_nodes::{old_function_item, push_declaration};
 use qual_base::TokenId;
 use reader_base::{
-    Answer, Ask, Place, ReadError, attrs, extensions, is_open_brace, kind_at, specs_here,
+    Answer, Ask, Cursor, ReadError, attrs, extensions, is_open_brace, kind_at, specs_here,
 };
 use stmt_forms::block_body;
 use typedef_scope::Kind;
@@ -52,18 +52,18 @@ pub(crate) fn lists_identifiers(declr: &Declr) -> bool
 fn old_declaration<'a, F>(
     lent: &F,
     room: u16,
-    place: &mut Place<'a>,
+    cursor: &mut Cursor<'a>,
     depth: u32,
 ) -> Result<SizedDeclaration, ReadError>
 where
-    F: Fn(Ask, &mut Place<'a>) -> Result<Answer, ReadError>,
+    F: Fn(Ask, &mut Cursor<'a>) -> Result<Answer, ReadError>,
     requires { Lends F.Fn lent.now depth }
-    ensures { ReadsDeclaration place.old place.new result
+    ensures { ReadsDeclaration cursor.old cursor.new result
         (units.old_declaration (knot depth) room) }
 {
-    let exts = extensions(room, place)?;
-    let words = specs_here(lent, Role::Declaring, room, place, depth)?;
-    declaration_behind(lent, exts, words, room, place, depth)
+    let exts = extensions(room, cursor)?;
+    let words = specs_here(lent, Role::Declaring, room, cursor, depth)?;
+    declaration_behind(lent, exts, words, room, cursor, depth)
 }
 
 /// Each declaration takes a token.
@@ -79,19 +79,19 @@ fn turn<'a, F>(
     lent: &F,
     known: &mut Vec<Declaration>,
     room: u16,
-    place: &mut Place<'a>,
+    cursor: &mut Cursor<'a>,
     depth: u32,
 ) -> Result<bool, ReadError>
 where
-    F: Fn(Ask, &mut Place<'a>) -> Result<Answer, ReadError>,
+    F: Fn(Ask, &mut Cursor<'a>) -> Result<Answer, ReadError>,
     requires { Lends F.Fn lent.now depth }
     ensures { Turns (known_declarations known.old.items) (known_declarations known.new.items)
-        place.old place.new result (old_turn depth room) }
+        cursor.old cursor.new result (old_turn depth room) }
 {
-    if is_open_brace(kind_at(place.rest)) {
+    if is_open_brace(kind_at(cursor.rest)) {
         return Ok(false);
     }
-    let next = old_declaration(lent, room, place, depth)?;
+    let next = old_declaration(lent, room, cursor, depth)?;
     push_declaration(known, next)?;
     Ok(true)
 }
@@ -101,18 +101,18 @@ where
 fn declarations<'a, F>(
     lent: &F,
     room: u16,
-    place: &mut Place<'a>,
+    cursor: &mut Cursor<'a>,
     depth: u32,
 ) -> Result<Vec<Declaration>, ReadError>
 where
-    F: Fn(Ask, &mut Place<'a>) -> Result<Answer, ReadError>,
+    F: Fn(Ask, &mut Cursor<'a>) -> Result<Answer, ReadError>,
     requires { Lends F.Fn lent.now depth }
-    ensures { ReadsDeclarations place.old place.new result
+    ensures { ReadsDeclarations cursor.old cursor.new result
         (repeated (λ kind. not (tokens.is_open_brace kind)) (units.old_declaration (knot depth) room)) }
 {
     old_step(room, depth);
-    let mut known = Vec::new(place.alloc);
-    while turn(lent, &mut known, room, place, depth)? {}
+    let mut known = Vec::new(cursor.alloc);
+    while turn(lent, &mut known, room, cursor, depth)? {}
     Ok(known)
 }
 
@@ -124,23 +124,24 @@ pub(crate) fn old_function<'a, F>(
     words: SizedSpecs,
     declr: PresentDeclr,
     room: u16,
-    place: &mut Place<'a>,
+    cursor: &mut Cursor<'a>,
     depth: u32,
 ) -> Result<Item, ReadError>
 where
-    F: Fn(Ask, &mut Place<'a>) -> Result<Answer, ReadError>,
+    F: Fn(Ask, &mut Cursor<'a>) -> Result<Answer, ReadError>,
     requires { Lends F.Fn lent.now depth }
-    ensures { ReadsItem place.old place.new result (units.old_function_with (knot depth) exts.items
+    ensures { ReadsItem cursor.old cursor.new result
+        (units.old_function_with (knot depth) exts.items
         (sized_specs words) (declr_of declr.declr.value) room) }
 {
-    let attrs = attrs(room, place)?;
+    let attrs = attrs(room, cursor)?;
     let inside = room.saturating_sub(1);
-    place.scopes.enter()?;
-    let found = declarations(lent, inside, place, depth)?;
-    let parameters = place.scopes.close();
-    place.scopes.release(Kind::Value)?;
-    place.scopes.reopen(parameters)?;
-    let body = block_body(lent, inside, place, depth)?;
-    place.scopes.leave();
+    cursor.scopes.enter()?;
+    let found = declarations(lent, inside, cursor, depth)?;
+    let parameters = cursor.scopes.close();
+    cursor.scopes.release(Kind::Value)?;
+    cursor.scopes.reopen(parameters)?;
+    let body = block_body(lent, inside, cursor, depth)?;
+    cursor.scopes.leave();
     Ok(old_function_item(exts, words, declr, attrs, found, body))
 }

@@ -15,40 +15,40 @@ use c_syntax::Item;
 use decl_forms::{has_auto, has_typedef};
 use decl_nodes::{push_item, semi_item};
 use reader_base::{
-    Answer, Ask, Place, ReadError, extensions, group, is_asm, is_end, is_semicolon,
+    Answer, Ask, Cursor, ReadError, extensions, group, is_asm, is_end, is_semicolon,
     is_static_assert, kind_at, room_for, semicolon, specs_here, static_assert, take_one,
 };
 
 /// `Semi = ;`.
 #[tactic(auto, unfolding(c_reading::specs::Reading::fits, c_reading::specs::Reading::and_then))]
-fn semi(room: u16, place: &mut Place) -> Result<Item, ReadError>
-    ensures { ReadsItem place.old place.new result (semi_with room) }
+fn semi(room: u16, cursor: &mut Cursor) -> Result<Item, ReadError>
+    ensures { ReadsItem cursor.old cursor.new result (semi_with room) }
 {
-    room_for(1, room, place)?;
-    let semi = take_one(place)?;
+    room_for(1, room, cursor)?;
+    let semi = take_one(cursor)?;
     Ok(semi_item(semi))
 }
 
 /// `AsmDecl = asm bal ;`.
 #[tactic(auto, unfolding(c_reading::specs::Items::asm_item_with, c_reading::specs::Reading::fits, c_reading::specs::Reading::and_then))]
-fn asm_item(room: u16, place: &mut Place, depth: u32) -> Result<Item, ReadError>
-    ensures { ReadsItem place.old place.new result (asm_with depth room) }
+fn asm_item(room: u16, cursor: &mut Cursor, depth: u32) -> Result<Item, ReadError>
+    ensures { ReadsItem cursor.old cursor.new result (asm_with depth room) }
 {
-    room_for(1, room, place)?;
-    let keyword = take_one(place)?;
-    let group = group(place)?;
-    let semi = semicolon(place)?;
+    room_for(1, room, cursor)?;
+    let keyword = take_one(cursor)?;
+    let group = group(cursor)?;
+    let semi = semicolon(cursor)?;
     Ok(decl_nodes::asm_item(keyword, group, semi))
 }
 
 /// `Assert = _Static_assert bal ;`.
 #[tactic(auto, unfolding(c_reading::specs::Reading::fits, c_reading::specs::Reading::and_then))]
-fn assert_item(room: u16, place: &mut Place) -> Result<Item, ReadError>
-    ensures { ReadsItem place.old place.new result (assert_with room) }
+fn assert_item(room: u16, cursor: &mut Cursor) -> Result<Item, ReadError>
+    ensures { ReadsItem cursor.old cursor.new result (assert_with room) }
 {
-    room_for(1, room, place)?;
-    let found = static_assert(place)?;
-    Ok(decl_nodes::assert_item(place.alloc, found)?)
+    room_for(1, room, cursor)?;
+    let found = static_assert(cursor)?;
+    Ok(decl_nodes::assert_item(cursor.alloc, found)?)
 }
 
 /// `Function = ext* Specs declr Attr* Block`, or a declaration: by the token behind the words, and
@@ -57,23 +57,23 @@ fn assert_item(room: u16, place: &mut Place) -> Result<Item, ReadError>
 fn declared_item<'a, F>(
     lent: &F,
     room: u16,
-    place: &mut Place<'a>,
+    cursor: &mut Cursor<'a>,
     depth: u32,
 ) -> Result<Item, ReadError>
 where
-    F: Fn(Ask, &mut Place<'a>) -> Result<Answer, ReadError>,
+    F: Fn(Ask, &mut Cursor<'a>) -> Result<Answer, ReadError>,
     requires { Lends F.Fn lent.now depth }
-    ensures { ReadsItem place.old place.new result (listed.declared_item (knot depth) room) }
+    ensures { ReadsItem cursor.old cursor.new result (listed.declared_item (knot depth) room) }
 {
-    let exts = extensions(room, place)?;
-    let words = specs_here(lent, Role::Declaring, room, place, depth)?;
+    let exts = extensions(room, cursor)?;
+    let words = specs_here(lent, Role::Declaring, room, cursor, depth)?;
     if has_auto(words.words.as_slice())
-        || is_semicolon(kind_at(place.rest))
+        || is_semicolon(kind_at(cursor.rest))
         || has_typedef(words.words.as_slice())
     {
-        return declaration_here(lent, exts, words, room, place, depth);
+        return declaration_here(lent, exts, words, room, cursor, depth);
     }
-    first_declr(lent, exts, words, room, place, depth)
+    first_declr(lent, exts, words, room, cursor, depth)
 }
 
 /// `item = Function | decl | AsmDecl | Semi`, by its first token (C99, 6.9).
@@ -83,24 +83,24 @@ where
 pub fn item<'a, F>(
     lent: &F,
     room: u16,
-    place: &mut Place<'a>,
+    cursor: &mut Cursor<'a>,
     depth: u32,
 ) -> Result<Item, ReadError>
 where
-    F: Fn(Ask, &mut Place<'a>) -> Result<Answer, ReadError>,
+    F: Fn(Ask, &mut Cursor<'a>) -> Result<Answer, ReadError>,
     requires { Lends F.Fn lent.now depth }
-    ensures { ReadsItem place.old place.new result (listed.item_with (knot depth) room) }
+    ensures { ReadsItem cursor.old cursor.new result (listed.item_with (knot depth) room) }
 {
-    if is_semicolon(kind_at(place.rest)) {
-        return semi(room, place);
+    if is_semicolon(kind_at(cursor.rest)) {
+        return semi(room, cursor);
     }
-    if is_asm(kind_at(place.rest)) {
-        return asm_item(room, place, depth);
+    if is_asm(kind_at(cursor.rest)) {
+        return asm_item(room, cursor, depth);
     }
-    if is_static_assert(kind_at(place.rest)) {
-        return assert_item(room, place);
+    if is_static_assert(kind_at(cursor.rest)) {
+        return assert_item(room, cursor);
     }
-    declared_item(lent, room, place, depth)
+    declared_item(lent, room, cursor, depth)
 }
 
 /// Each item takes a token.
@@ -116,19 +116,19 @@ fn turn<'a, F>(
     lent: &F,
     known: &mut Vec<Item>,
     room: u16,
-    place: &mut Place<'a>,
+    cursor: &mut Cursor<'a>,
     depth: u32,
 ) -> Result<bool, ReadError>
 where
-    F: Fn(Ask, &mut Place<'a>) -> Result<Answer, ReadError>,
+    F: Fn(Ask, &mut Cursor<'a>) -> Result<Answer, ReadError>,
     requires { Lends F.Fn lent.now depth }
-    ensures { Turns (known_items known.old.items) (known_items known.new.items) place.old place.new
-        result (item_turn depth room) }
+    ensures { Turns (known_items known.old.items) (known_items known.new.items) cursor.old
+        cursor.new result (item_turn depth room) }
 {
-    if is_end(kind_at(place.rest)) {
+    if is_end(kind_at(cursor.rest)) {
         return Ok(false);
     }
-    let next = item(lent, room, place, depth)?;
+    let next = item(lent, room, cursor, depth)?;
     push_item(known, next)?;
     Ok(true)
 }
@@ -140,17 +140,17 @@ where
 pub fn items<'a, F>(
     lent: &F,
     room: u16,
-    place: &mut Place<'a>,
+    cursor: &mut Cursor<'a>,
     depth: u32,
 ) -> Result<Vec<Item>, ReadError>
 where
-    F: Fn(Ask, &mut Place<'a>) -> Result<Answer, ReadError>,
+    F: Fn(Ask, &mut Cursor<'a>) -> Result<Answer, ReadError>,
     requires { Lends F.Fn lent.now depth }
-    ensures { Reads (λ x. known_items x.items) place.old place.new result
+    ensures { Reads (λ x. known_items x.items) cursor.old cursor.new result
         (listed.items_with (knot depth) room) }
 {
     items_step(room, depth);
-    let mut known = Vec::new(place.alloc);
-    while turn(lent, &mut known, room, place, depth)? {}
+    let mut known = Vec::new(cursor.alloc);
+    while turn(lent, &mut known, room, cursor, depth)? {}
     Ok(known)
 }

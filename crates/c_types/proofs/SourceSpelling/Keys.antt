@@ -5,12 +5,13 @@ use Rattle.std.specs.Map.{lookup, KeepsOthers}
 use Rattle.std.proofs.lemmas.Slice.Eq.{bytes_eq-Decides}
 use Rattle.std.specs.declared.alloc.Global.{Global}
 use Rattle.std.specs.declared.vec.Vec.{Vec}
+use Rattle.std.proofs.lemmas.Option.{same_Some}
 use Rattle.c_words.specs.declared.kinds.TokenKind.{TokenKind}
 use Rattle.c_lexer.specs.declared.token.Token.{Token}
 use Rattle.c_lexer.specs.Tokens.{Lexed}
 use Rattle.c_types.specs.SourceSpelling.Tokens.{name_of_kind, bytes_of, is_name, spelled_among, spelled, or_behind, name_among, key_or, key_among, key_of_some, key_behind}
 use Rattle.c_types.specs.declared.source_spelling.earlier.EarlierNames.{EarlierNames}
-use Rattle.c_types.specs.SourceSpelling.Keys.{key_at, past, name_of_token, text_of_token, key_spelled, count_of, AreNamesOf, key_by, own_or}
+use Rattle.c_types.specs.SourceSpelling.Keys.{key_at, past, name_of_token, text_of_token, key_spelled, count_of, AreNamesOf, key_by}
 
 pub none_of : (o : Option ℕ) (has : Bool) → has ≡ is_some o → has ≡ false → o ≡ None
 none_of None has is off = refl
@@ -67,24 +68,12 @@ put_text key number old new text copied none here others t = by_test (bytes_eq t
 
 -- tokens
 
-some_is : {A : Type 0} (x y : A) → ◌≡◌ {A = Option A} (Some x) (Some y) → x ≡ y
-some_is {A} x y is = ap (λ (o : Option A). unwrap_or o x) is
-
 abbrev kind_of : Option Token → Option TokenKind
 kind_of o = option_map (λ token. token.kind) o
 
 if_none : {A : Type 0} (b : Bool) → None ≡ (let o : Option A = if b then None else None in o)
 if_none true = refl
 if_none false = refl
-
--- a token whose kind is no name is the name of no spelling
-pub no_name : (lexed : Lexed) (o : Option Token) (kind : TokenKind) → kind_of o ≡ Some kind → name_of_kind kind ≡ None
-    → (t : List ℕ) → None ≡ name_of_token lexed o t
-no_name lexed None kind is none t = absurd cc
-no_name lexed (Some token) kind is none t =
-    if_none (bytes_eq (bytes_of lexed token) t)
-    ∙ ap (λ (n : Option ℕ). if bytes_eq (bytes_of lexed token) t then n else None)
-    (sym none ∙ ap name_of_kind (sym (some_is token.kind kind is)))
 
 if_past : (b : Bool) (count name : ℕ)
     → (if b then Some (count + name) else None) ≡ past count (if b then Some name else None)
@@ -100,9 +89,9 @@ a_name lexed None kind bytes count name is has named t = absurd cc
 a_name lexed (Some token) kind bytes count name is has named t =
     if_past (bytes_eq bytes t) count name
     ∙ ap (λ (n : Option ℕ). past count (if bytes_eq bytes t then n else None))
-    (sym named ∙ ap name_of_kind (sym (some_is token.kind kind is)))
+    (sym named ∙ ap name_of_kind (sym (same_Some token.kind kind is)))
     ∙ ap (λ (bs : List ℕ). past count (if bytes_eq bs t then name_of_kind token.kind else None))
-    (sym (some_is (bytes_of lexed token) bytes has))
+    (sym (same_Some (bytes_of lexed token) bytes has))
 
 -- one token more
 pub named_on : (lexed : Lexed) (tokens : List Token) (i : ℕ) (t : List ℕ) → i < length tokens
@@ -151,10 +140,6 @@ got_more [] x (suc i) d h = refl
 got_more (k ∷ keys) x zero d h = refl
 got_more (k ∷ keys) x (suc i) d h = got_more keys x i d (λ e. h (ap suc e))
 
--- one more name that has its own number
-pub own_more : (keys : List ℕ) (x n : ℕ) → x ≡ length keys → own_or (keys ++ x ∷ []) n ≡ own_or keys n
-own_more keys x n is = got_more keys x n n (λ e. is ∙ sym e)
-
 -- units
 
 -- the key of a spelling among units, or else the name past all their tokens, is what the rules say of it
@@ -168,7 +153,8 @@ among_is (first ∷ others) text name =
         → key_or (length first.tokens + count_of others + name) (or_behind o (past (length first.tokens) rest))
         ≡ key_or (length first.tokens + key_among others text name) o
     by_case None None is =
-        let e : length first.tokens + count_of others + name ≡ length first.tokens + (count_of others + name) = omega arith in
+        let e : length first.tokens + count_of others + name ≡ length first.tokens + (count_of others + name) =
+        omega arith in
         e ∙ ap (λ (n : ℕ). length first.tokens + n) is
     by_case None (Some n) is = ap (λ (m : ℕ). length first.tokens + m) is
     by_case (Some n) rest is = refl

@@ -1,15 +1,13 @@
 -- What is read token by token.
 use Rattle.std.proofs.Common.{arith, ◌≡◌, ℕ, zero, suc, ◌+◌, ◌<◌, Bool, false, ◌||◌, List, [], ◌∷◌, ◌++◌, length, map, drop, slice_get, slice_range, Option, Some, None, is_some, option_map, unwrap_or, refl, sym, ◌∙◌, ap, append_assoc}
 use Rattle.std.proofs.Math.Path.{fun_ext}
+use Rattle.std.proofs.lemmas.Option.{same_Some}
 use Rattle.c_words.specs.declared.kinds.TokenKind.{TokenKind}
 use Rattle.c_lexer.specs.declared.token.Token.{Token}
 use Rattle.c_lexer.specs.Tokens.{Lexed, mark_of_kind}
 use Rattle.name_rules.specs.Spellings.{Spelling}
 use Rattle.c_types.specs.SourceSpelling.Tokens.{is_index, is_annotation, is_zero_text, is_zero, holds_of_some, holds_at, key_behind, spelling_behind}
 use Rattle.c_types.specs.SourceSpelling.Keys.{own_or}
-
-some_is : {A : Type 0} (x y : A) → ◌≡◌ {A = Option A} (Some x) (Some y) → x ≡ y
-some_is {A} x y is = ap (λ (o : Option A). unwrap_or o x) is
 
 -- a token that is an index word or has a mark is an annotation, and no other is
 annotation_of : (lexed : Lexed) (o : Option Token) (kind : TokenKind) (mark : Option (ℕ × ℕ))
@@ -18,9 +16,9 @@ annotation_of : (lexed : Lexed) (o : Option Token) (kind : TokenKind) (mark : Op
     → is_index kind || is_some mark ≡ holds_of_some (is_annotation lexed) o
 annotation_of lexed None kind mark is has = absurd cc
 annotation_of lexed (Some token) kind mark is has =
-    ap (λ (k : TokenKind). is_index k || is_some mark) (sym (some_is token.kind kind is))
+    ap (λ (k : TokenKind). is_index k || is_some mark) (sym (same_Some token.kind kind is))
     ∙ ap (λ (m : Option (ℕ × ℕ)). is_index token.kind || is_some m)
-    (sym (some_is (mark_of_kind lexed token.kind) mark has))
+    (sym (same_Some (mark_of_kind lexed token.kind) mark has))
 
 pub annotation_is : (lexed : Lexed) (n : ℕ) (kind : TokenKind) (mark : Option (ℕ × ℕ))
     → option_map (λ token. token.kind) (slice_get lexed.tokens n) ≡ Some kind
@@ -34,7 +32,7 @@ zero_of : (lexed : Lexed) (o : Option Token) (bytes : List ℕ)
     → is_zero_text bytes ≡ holds_of_some (is_zero lexed) o
 zero_of lexed None bytes is = absurd cc
 zero_of lexed (Some token) bytes is =
-    ap is_zero_text (sym (some_is (slice_range lexed.bytes token.start token.end) bytes is))
+    ap is_zero_text (sym (same_Some (slice_range lexed.bytes token.start token.end) bytes is))
 
 pub zero_is : (lexed : Lexed) (n : ℕ) (bytes : List ℕ)
     → option_map (λ token. slice_range lexed.bytes token.start token.end) (slice_get lexed.tokens n) ≡ Some bytes
@@ -95,5 +93,6 @@ spelled_is units lexed unit wide words zeros keys u b w z k =
     ∙ ap (λ (zs : List Bool). spelled lexed.unit lexed.wide all_words zs keys) z
     ∙ ap (λ (f : ℕ → Bool). spelled_by lexed.unit lexed.wide f read_zero read_key)
     (fun_ext (λ n. read_at (is_annotation lexed) lexed.tokens n))
-    ∙ ap (λ (f : ℕ → Bool). spelled_by lexed.unit lexed.wide word f read_key) (fun_ext (λ n. read_at (is_zero lexed) lexed.tokens n))
+    ∙ ap (λ (f : ℕ → Bool). spelled_by lexed.unit lexed.wide word f read_key)
+    (fun_ext (λ n. read_at (is_zero lexed) lexed.tokens n))
     ∙ ap (λ (f : ℕ → ℕ). spelled_by lexed.unit lexed.wide word zero_there f) (fun_ext (λ n. k n))

@@ -27,7 +27,8 @@ name_at lexed at text = name_of_token lexed (slice_get lexed.tokens at) text
 -- how the token of a number is spelled, where it is this name
 abbrev pub text_of_token : Lexed → Option Token → ℕ → Option (List ℕ)
 text_of_token lexed None name = None
-text_of_token lexed (Some token) name = if is_name (name_of_kind token.kind) name then Some (bytes_of lexed token) else None
+text_of_token lexed (Some token) name =
+    if is_name (name_of_kind token.kind) name then Some (bytes_of lexed token) else None
 
 -- how the token of this number is spelled, where there is one and it is this name
 abbrev pub text_at : Lexed → ℕ → ℕ → Option (List ℕ)

@@ -77,8 +77,7 @@ key_or other None = other
 key_or other (Some n) = n
 
 -- The number of a spelling, of a name that has this number in its own unit: that of the name of the first unit which is
--- spelled
--- so, and else one past the tokens of that unit, found in the same way among the units behind it.
+-- spelled so, and else one past the tokens of that unit, found in the same way among the units behind it.
 abbrev pub key_among : List Lexed → List ℕ → ℕ → ℕ
 key_among [] text name = name
 key_among (first ∷ others) text name =

@@ -11,7 +11,7 @@ use Rattle.c_tree.specs.View.{desig_of, init_of}
 use Rattle.c_reading.specs.Parts.{ListItem}
 use Rattle.c_reading.specs.Reading.{Reader}
 use Rattle.reader_base.specs.declared.fault.ReadError.{ReadError}
-use Rattle.reader_base.specs.declared.place.Place.{Place}
+use Rattle.reader_base.specs.declared.cursor.Cursor.{Cursor}
 use Rattle.reader_base.specs.Gives.{Reads}
 
 -- designators so far
@@ -27,17 +27,17 @@ abbrev pub sized_item : SizedInitItem → ListItem
 sized_item x = record { desigs = desigs_from x.desigs.items; equal = x.equal; init = init_of x.init }
 
 -- an initialiser is read as the reader of lists gives it
-abbrev pub ReadsInit : Place → Place → Result SizedInit ReadError → Reader Init → Type 0
+abbrev pub ReadsInit : Cursor → Cursor → Result SizedInit ReadError → Reader Init → Type 0
 ReadsInit before after result reader = Reads (λ x. init_of x.init) before after result reader
 
 -- a designator is read so
-abbrev pub ReadsDesig : Place → Place → Result SizedDesig ReadError → Reader Desig → Type 0
+abbrev pub ReadsDesig : Cursor → Cursor → Result SizedDesig ReadError → Reader Desig → Type 0
 ReadsDesig before after result reader = Reads (λ x. desig_of x.desig) before after result reader
 
 -- the designators of an item are read so
-abbrev pub ReadsDesigs : Place → Place → Result SizedDesigs ReadError → Reader (List Desig) → Type 0
+abbrev pub ReadsDesigs : Cursor → Cursor → Result SizedDesigs ReadError → Reader (List Desig) → Type 0
 ReadsDesigs before after result reader = Reads desig_trees before after result reader
 
 -- an item of a braced list is read so
-abbrev pub ReadsItem : Place → Place → Result SizedInitItem ReadError → Reader ListItem → Type 0
+abbrev pub ReadsItem : Cursor → Cursor → Result SizedInitItem ReadError → Reader ListItem → Type 0
 ReadsItem before after result reader = Reads sized_item before after result reader

@@ -21,19 +21,19 @@ use c_syntax::Identifier;
 use decl_nodes::{index_desig, member_desig, old_desig, range_desig};
 use qual_base::{NoMemory, TokenId};
 use reader_base::{
-    Answer, Ask, Begun, Place, ReadError, begins_desig, close_bracket, equal, expr_inside, is_dot,
+    Answer, Ask, Begun, Cursor, ReadError, begins_desig, close_bracket, equal, expr_inside, is_dot,
     is_dots, kind_at, name, room_for, take_one,
 };
 use std::alloc::Global;
 
 /// `Desig = . Name`, at the dot.
 #[tactic(auto, unfolding(c_reading::specs::Initialising::member_desig_with, c_reading::specs::Reading::fits, c_reading::specs::Reading::and_then))]
-fn member(room: u16, place: &mut Place, depth: u32) -> Result<SizedDesig, ReadError>
-    ensures { ReadsDesig place.old place.new result (member_desig_with (knot depth) room) }
+fn member(room: u16, cursor: &mut Cursor, depth: u32) -> Result<SizedDesig, ReadError>
+    ensures { ReadsDesig cursor.old cursor.new result (member_desig_with (knot depth) room) }
 {
-    room_for(2, room, place)?;
-    let dot = take_one(place)?;
-    let name = name(place)?;
+    room_for(2, room, cursor)?;
+    let dot = take_one(cursor)?;
+    let name = name(cursor)?;
     Ok(member_desig(dot, name))
 }
 
@@ -44,26 +44,26 @@ fn range_behind<'a, F>(
     opening: TokenId,
     first: SizedExpr,
     room: u16,
-    place: &mut Place<'a>,
+    cursor: &mut Cursor<'a>,
     depth: u32,
 ) -> Result<SizedDesig, ReadError>
 where
-    F: Fn(Ask, &mut Place<'a>) -> Result<Answer, ReadError>,
+    F: Fn(Ask, &mut Cursor<'a>) -> Result<Answer, ReadError>,
     requires { Lends F.Fn lent.now depth }
-    ensures { ReadsDesig place.old place.new result
+    ensures { ReadsDesig cursor.old cursor.new result
         (inits.range_behind (knot depth) opening (expr first) room) }
 {
-    let dots = take_one(place)?;
+    let dots = take_one(cursor)?;
     let inside = room.saturating_sub(2);
     let last = expr_inside(
         lent,
         Reach::Conditional,
         Begun::Nothing,
         inside,
-        place,
+        cursor,
         depth,
     )?;
-    let closing = close_bracket(place)?;
+    let closing = close_bracket(cursor)?;
     Ok(range_desig(opening, first, dots, last, closing))
 }
 
@@ -74,19 +74,19 @@ fn index_behind<'a, F>(
     opening: TokenId,
     first: SizedExpr,
     room: u16,
-    place: &mut Place<'a>,
+    cursor: &mut Cursor<'a>,
     depth: u32,
 ) -> Result<SizedDesig, ReadError>
 where
-    F: Fn(Ask, &mut Place<'a>) -> Result<Answer, ReadError>,
+    F: Fn(Ask, &mut Cursor<'a>) -> Result<Answer, ReadError>,
     requires { Lends F.Fn lent.now depth }
-    ensures { ReadsDesig place.old place.new result
+    ensures { ReadsDesig cursor.old cursor.new result
         (inits.index_behind (knot depth) opening (expr first) room) }
 {
-    if place.scopes.is_wide() && is_dots(kind_at(place.rest)) {
-        return range_behind(lent, opening, first, room, place, depth);
+    if cursor.scopes.is_wide() && is_dots(kind_at(cursor.rest)) {
+        return range_behind(lent, opening, first, room, cursor, depth);
     }
-    let closing = close_bracket(place)?;
+    let closing = close_bracket(cursor)?;
     Ok(index_desig(opening, first, closing))
 }
 
@@ -95,26 +95,26 @@ where
 fn index<'a, F>(
     lent: &F,
     room: u16,
-    place: &mut Place<'a>,
+    cursor: &mut Cursor<'a>,
     depth: u32,
 ) -> Result<SizedDesig, ReadError>
 where
-    F: Fn(Ask, &mut Place<'a>) -> Result<Answer, ReadError>,
+    F: Fn(Ask, &mut Cursor<'a>) -> Result<Answer, ReadError>,
     requires { Lends F.Fn lent.now depth }
-    ensures { ReadsDesig place.old place.new result (index_desig_with (knot depth) room) }
+    ensures { ReadsDesig cursor.old cursor.new result (index_desig_with (knot depth) room) }
 {
-    room_for(3, room, place)?;
-    let opening = take_one(place)?;
+    room_for(3, room, cursor)?;
+    let opening = take_one(cursor)?;
     let inside = room.saturating_sub(2);
     let index = expr_inside(
         lent,
         Reach::Conditional,
         Begun::Nothing,
         inside,
-        place,
+        cursor,
         depth,
     )?;
-    index_behind(lent, opening, index, room, place, depth)
+    index_behind(lent, opening, index, room, cursor, depth)
 }
 
 /// A designator.
@@ -122,18 +122,18 @@ where
 fn desig<'a, F>(
     lent: &F,
     room: u16,
-    place: &mut Place<'a>,
+    cursor: &mut Cursor<'a>,
     depth: u32,
 ) -> Result<SizedDesig, ReadError>
 where
-    F: Fn(Ask, &mut Place<'a>) -> Result<Answer, ReadError>,
+    F: Fn(Ask, &mut Cursor<'a>) -> Result<Answer, ReadError>,
     requires { Lends F.Fn lent.now depth }
-    ensures { ReadsDesig place.old place.new result (desig_with (knot depth) room) }
+    ensures { ReadsDesig cursor.old cursor.new result (desig_with (knot depth) room) }
 {
-    if is_dot(kind_at(place.rest)) {
-        member(room, place, depth)
+    if is_dot(kind_at(cursor.rest)) {
+        member(room, cursor, depth)
     } else {
-        index(lent, room, place, depth)
+        index(lent, room, cursor, depth)
     }
 }
 
@@ -150,19 +150,19 @@ fn desig_turn<'a, F>(
     lent: &F,
     known: &mut SizedDesigs,
     room: u16,
-    place: &mut Place<'a>,
+    cursor: &mut Cursor<'a>,
     depth: u32,
 ) -> Result<bool, ReadError>
 where
-    F: Fn(Ask, &mut Place<'a>) -> Result<Answer, ReadError>,
+    F: Fn(Ask, &mut Cursor<'a>) -> Result<Answer, ReadError>,
     requires { Lends F.Fn lent.now depth }
-    ensures { Turns (desig_trees known.old) (desig_trees known.new) place.old place.new result
+    ensures { Turns (desig_trees known.old) (desig_trees known.new) cursor.old cursor.new result
         (repeated_turn begins_desig (desig_with (knot depth) room)) }
 {
-    if !begins_desig(kind_at(place.rest)) {
+    if !begins_desig(kind_at(cursor.rest)) {
         return Ok(false);
     }
-    let next = desig(lent, room, place, depth)?;
+    let next = desig(lent, room, cursor, depth)?;
     known.push(next)?;
     Ok(true)
 }
@@ -172,18 +172,18 @@ where
 pub(crate) fn desigs<'a, F>(
     lent: &F,
     room: u16,
-    place: &mut Place<'a>,
+    cursor: &mut Cursor<'a>,
     depth: u32,
 ) -> Result<SizedDesigs, ReadError>
 where
-    F: Fn(Ask, &mut Place<'a>) -> Result<Answer, ReadError>,
+    F: Fn(Ask, &mut Cursor<'a>) -> Result<Answer, ReadError>,
     requires { Lends F.Fn lent.now depth }
-    ensures { ReadsDesigs place.old place.new result
+    ensures { ReadsDesigs cursor.old cursor.new result
         (repeated begins_desig (desig_with (knot depth) room)) }
 {
     desigs_step(room, depth);
-    let mut known = SizedDesigs::new(place.alloc);
-    while desig_turn(lent, &mut known, room, place, depth)? {}
+    let mut known = SizedDesigs::new(cursor.alloc);
+    while desig_turn(lent, &mut known, room, cursor, depth)? {}
     Ok(known)
 }
 
@@ -191,14 +191,15 @@ where
 #[tactic(auto, unfolding(c_reading::specs::Reading::and_then))]
 pub(crate) fn equal_behind(
     known: &SizedDesigs,
-    place: &mut Place,
+    cursor: &mut Cursor,
 ) -> Result<Option<TokenId>, ReadError>
-    ensures { Takes place.old place.new result (equal_behind (desigs_from known.now.items.items)) }
+    ensures { Takes cursor.old cursor.new result (equal_behind
+        (desigs_from known.now.items.items)) }
 {
     match known.items.as_slice().split_first() {
         None => Ok(None),
         Some(_) => {
-            let equal = equal(place)?;
+            let equal = equal(cursor)?;
             Ok(Some(equal))
         }
     }

@@ -14,10 +14,10 @@ ghost use Rattle.reader_base.specs.Looping.{IsLoop, Turns};
 use crate::init_forms::designators::{desigs, equal_behind, old_desigs};
 use crate::init_forms::values::init_here;
 use c_nodes::{SizedInitItem, SizedInitItems, SizedInitList};
-use c_reading::{Fault, turns_take_tokens};
+use c_reading::{FaultKind, turns_take_tokens};
 use qual_base::{NameId, NoMemory, TokenId};
 use reader_base::{
-    Answer, Ask, Place, ReadError, behind_first, close_brace, colon, is_close_brace, is_colon,
+    Answer, Ask, Cursor, ReadError, behind_first, close_brace, colon, is_close_brace, is_colon,
     is_comma, is_open_brace, kind_at, name, refused, room_for, spelled_name, take_one,
 };
 use std::alloc::Global;
@@ -34,17 +34,17 @@ pub struct Listing {
 fn plain_item<'a, F>(
     lent: &F,
     room: u16,
-    place: &mut Place<'a>,
+    cursor: &mut Cursor<'a>,
     depth: u32,
 ) -> Result<SizedInitItem, ReadError>
 where
-    F: Fn(Ask, &mut Place<'a>) -> Result<Answer, ReadError>,
+    F: Fn(Ask, &mut Cursor<'a>) -> Result<Answer, ReadError>,
     requires { Lends F.Fn lent.now depth }
-    ensures { ReadsItem place.old place.new result (inits.plain_item (knot depth) room) }
+    ensures { ReadsItem cursor.old cursor.new result (inits.plain_item (knot depth) room) }
 {
-    let desigs = desigs(lent, room, place, depth)?;
-    let equal = equal_behind(&desigs, place)?;
-    let init = init_here(lent, room, place, depth)?;
+    let desigs = desigs(lent, room, cursor, depth)?;
+    let equal = equal_behind(&desigs, cursor)?;
+    let init = init_here(lent, room, cursor, depth)?;
     Ok(decl_nodes::init_item(desigs, equal, init))
 }
 
@@ -53,18 +53,18 @@ where
 fn old_item<'a, F>(
     lent: &F,
     room: u16,
-    place: &mut Place<'a>,
+    cursor: &mut Cursor<'a>,
     depth: u32,
 ) -> Result<SizedInitItem, ReadError>
 where
-    F: Fn(Ask, &mut Place<'a>) -> Result<Answer, ReadError>,
+    F: Fn(Ask, &mut Cursor<'a>) -> Result<Answer, ReadError>,
     requires { Lends F.Fn lent.now depth }
-    ensures { ReadsItem place.old place.new result (inits.old_item (knot depth) room) }
+    ensures { ReadsItem cursor.old cursor.new result (inits.old_item (knot depth) room) }
 {
-    let name = name(place)?;
-    let colon = colon(place)?;
-    let desigs = old_desigs(place.alloc, name, colon)?;
-    let init = init_here(lent, room, place, depth)?;
+    let name = name(cursor)?;
+    let colon = colon(cursor)?;
+    let desigs = old_desigs(cursor.alloc, name, colon)?;
+    let init = init_here(lent, room, cursor, depth)?;
     Ok(decl_nodes::init_item(desigs, None, init))
 }
 
@@ -75,23 +75,23 @@ fn named_item<'a, F>(
     lent: &F,
     name: NameId,
     room: u16,
-    place: &mut Place<'a>,
+    cursor: &mut Cursor<'a>,
     depth: u32,
 ) -> Result<SizedInitItem, ReadError>
 where
-    F: Fn(Ask, &mut Place<'a>) -> Result<Answer, ReadError>,
+    F: Fn(Ask, &mut Cursor<'a>) -> Result<Answer, ReadError>,
     requires { Lends F.Fn lent.now depth }
-    ensures { ReadsItem place.old place.new result
+    ensures { ReadsItem cursor.old cursor.new result
         (inits.named_init_item (knot depth) name room) }
 {
-    room_for(2, room, place)?;
-    if is_colon(kind_at(behind_first(place.rest))) {
-        return old_item(lent, room, place, depth);
+    room_for(2, room, cursor)?;
+    if is_colon(kind_at(behind_first(cursor.rest))) {
+        return old_item(lent, room, cursor, depth);
     }
-    if place.scopes.names_type(name) {
-        return Err(refused(Fault::Unexpected, behind_first(place.rest)));
+    if cursor.scopes.names_type(name) {
+        return Err(refused(FaultKind::Unexpected, behind_first(cursor.rest)));
     }
-    plain_item(lent, room, place, depth)
+    plain_item(lent, room, cursor, depth)
 }
 
 /// `InitItem = [Desig+ =] init | OldDesig init`.
@@ -99,17 +99,17 @@ where
 fn item<'a, F>(
     lent: &F,
     room: u16,
-    place: &mut Place<'a>,
+    cursor: &mut Cursor<'a>,
     depth: u32,
 ) -> Result<SizedInitItem, ReadError>
 where
-    F: Fn(Ask, &mut Place<'a>) -> Result<Answer, ReadError>,
+    F: Fn(Ask, &mut Cursor<'a>) -> Result<Answer, ReadError>,
     requires { Lends F.Fn lent.now depth }
-    ensures { ReadsItem place.old place.new result (init_item_with (knot depth) room) }
+    ensures { ReadsItem cursor.old cursor.new result (init_item_with (knot depth) room) }
 {
-    match spelled_name(kind_at(place.rest)) {
-        Some(name) if place.scopes.is_wide() => named_item(lent, name, room, place, depth),
-        _ => plain_item(lent, room, place, depth),
+    match spelled_name(kind_at(cursor.rest)) {
+        Some(name) if cursor.scopes.is_wide() => named_item(lent, name, room, cursor, depth),
+        _ => plain_item(lent, room, cursor, depth),
     }
 }
 
@@ -126,31 +126,31 @@ fn item_turn<'a, F>(
     lent: &F,
     known: &mut Listing,
     room: u16,
-    place: &mut Place<'a>,
+    cursor: &mut Cursor<'a>,
     depth: u32,
 ) -> Result<bool, ReadError>
 where
-    F: Fn(Ask, &mut Place<'a>) -> Result<Answer, ReadError>,
+    F: Fn(Ask, &mut Cursor<'a>) -> Result<Answer, ReadError>,
     requires { Lends F.Fn lent.now depth }
-    ensures { Turns (listing known.old) (listing known.new) place.old place.new result
+    ensures { Turns (listing known.old) (listing known.new) cursor.old cursor.new result
         (comma_turn (next_init_item (knot depth) room)) }
 {
     if known.comma.is_some() {
         return Ok(false);
     }
-    let [first, rest @ ..] = place.rest else {
+    let [first, rest @ ..] = cursor.rest else {
         return Ok(false);
     };
     if !is_comma(first.kind) {
         return Ok(false);
     }
     let comma = first.at;
-    place.rest = rest;
-    if is_close_brace(kind_at(place.rest)) {
+    cursor.rest = rest;
+    if is_close_brace(kind_at(cursor.rest)) {
         known.comma = Some(comma);
         return Ok(true);
     }
-    let next = item(lent, room, place, depth)?;
+    let next = item(lent, room, cursor, depth)?;
     known.items.push(next)?;
     Ok(true)
 }
@@ -169,18 +169,18 @@ fn more_items<'a, F>(
     lent: &F,
     first: Listing,
     room: u16,
-    place: &mut Place<'a>,
+    cursor: &mut Cursor<'a>,
     depth: u32,
 ) -> Result<Listing, ReadError>
 where
-    F: Fn(Ask, &mut Place<'a>) -> Result<Answer, ReadError>,
+    F: Fn(Ask, &mut Cursor<'a>) -> Result<Answer, ReadError>,
     requires { Lends F.Fn lent.now depth }
-    ensures { ReadsListing place.old place.new result
+    ensures { ReadsListing cursor.old cursor.new result
         (run (comma_turn (next_init_item (knot depth) room)) (listing first)) }
 {
     items_step(room, depth);
     let mut known = first;
-    while item_turn(lent, &mut known, room, place, depth)? {}
+    while item_turn(lent, &mut known, room, cursor, depth)? {}
     Ok(known)
 }
 
@@ -189,23 +189,23 @@ where
 fn items<'a, F>(
     lent: &F,
     room: u16,
-    place: &mut Place<'a>,
+    cursor: &mut Cursor<'a>,
     depth: u32,
 ) -> Result<Listing, ReadError>
 where
-    F: Fn(Ask, &mut Place<'a>) -> Result<Answer, ReadError>,
+    F: Fn(Ask, &mut Cursor<'a>) -> Result<Answer, ReadError>,
     requires { Lends F.Fn lent.now depth }
-    ensures { ReadsListing place.old place.new result (init_items_with (knot depth) room) }
+    ensures { ReadsListing cursor.old cursor.new result (init_items_with (knot depth) room) }
 {
-    if is_close_brace(kind_at(place.rest)) {
+    if is_close_brace(kind_at(cursor.rest)) {
         return Ok(Listing {
-            items: SizedInitItems::new(place.alloc),
+            items: SizedInitItems::new(cursor.alloc),
             comma: None,
         });
     }
-    let first = item(lent, room, place, depth)?;
-    let known = one_item(place.alloc, first)?;
-    more_items(lent, known, room, place, depth)
+    let first = item(lent, room, cursor, depth)?;
+    let known = one_item(cursor.alloc, first)?;
+    more_items(lent, known, room, cursor, depth)
 }
 
 /// `InitList = { [InitItem (, InitItem)* [,]] }`, which must begin at the first token.
@@ -213,20 +213,20 @@ where
 pub fn init_list<'a, F>(
     lent: &F,
     room: u16,
-    place: &mut Place<'a>,
+    cursor: &mut Cursor<'a>,
     depth: u32,
 ) -> Result<SizedInitList, ReadError>
 where
-    F: Fn(Ask, &mut Place<'a>) -> Result<Answer, ReadError>,
+    F: Fn(Ask, &mut Cursor<'a>) -> Result<Answer, ReadError>,
     requires { Lends F.Fn lent.now depth }
-    ensures { ReadsInitList place.old place.new result (init_list_with (knot depth) room) }
+    ensures { ReadsInitList cursor.old cursor.new result (init_list_with (knot depth) room) }
 {
-    if !is_open_brace(kind_at(place.rest)) {
-        return Err(refused(Fault::Unexpected, place.rest));
+    if !is_open_brace(kind_at(cursor.rest)) {
+        return Err(refused(FaultKind::Unexpected, cursor.rest));
     }
-    room_for(1, room, place)?;
-    let opening = take_one(place)?;
-    let known = items(lent, room.saturating_sub(1), place, depth)?;
-    let closing = close_brace(place)?;
+    room_for(1, room, cursor)?;
+    let opening = take_one(cursor)?;
+    let known = items(lent, room.saturating_sub(1), cursor, depth)?;
+    let closing = close_brace(cursor)?;
     Ok(decl_nodes::init_list(opening, known.items, known.comma, closing))
 }

@@ -6,10 +6,10 @@ ghost use Rattle.decl_forms.specs.InitForms.Seen.{ReadsInit};
 ghost use Rattle.reader_base.specs.Lent.{Lends};
 
 use c_nodes::SizedInit;
-use c_reading::{Fault, Reach};
+use c_reading::{FaultKind, Reach};
 use decl_nodes::{init_braced, init_value};
 use reader_base::{
-    Answer, Ask, Begun, Place, ReadError, begins_init, expr_inside, init_list_inside,
+    Answer, Ask, Begun, Cursor, ReadError, begins_init, expr_inside, init_list_inside,
     is_open_brace, kind_at, refused, room_for,
 };
 
@@ -18,19 +18,19 @@ use reader_base::{
 pub fn init<'a, F>(
     lent: &F,
     room: u16,
-    place: &mut Place<'a>,
+    cursor: &mut Cursor<'a>,
     depth: u32,
 ) -> Result<SizedInit, ReadError>
 where
-    F: Fn(Ask, &mut Place<'a>) -> Result<Answer, ReadError>,
+    F: Fn(Ask, &mut Cursor<'a>) -> Result<Answer, ReadError>,
     requires { Lends F.Fn lent.now depth }
-    ensures { ReadsInit place.old place.new result (init_with (knot depth) room) }
+    ensures { ReadsInit cursor.old cursor.new result (init_with (knot depth) room) }
 {
-    if is_open_brace(kind_at(place.rest)) {
-        let list = init_list_inside(lent, room, place, depth)?;
+    if is_open_brace(kind_at(cursor.rest)) {
+        let list = init_list_inside(lent, room, cursor, depth)?;
         return Ok(init_braced(list));
     }
-    let value = expr_inside(lent, Reach::Assigned, Begun::Nothing, room, place, depth)?;
+    let value = expr_inside(lent, Reach::Assigned, Begun::Nothing, room, cursor, depth)?;
     Ok(init_value(value))
 }
 
@@ -39,17 +39,17 @@ where
 pub(crate) fn init_here<'a, F>(
     lent: &F,
     room: u16,
-    place: &mut Place<'a>,
+    cursor: &mut Cursor<'a>,
     depth: u32,
 ) -> Result<SizedInit, ReadError>
 where
-    F: Fn(Ask, &mut Place<'a>) -> Result<Answer, ReadError>,
+    F: Fn(Ask, &mut Cursor<'a>) -> Result<Answer, ReadError>,
     requires { Lends F.Fn lent.now depth }
-    ensures { ReadsInit place.old place.new result (init_here (knot depth) room) }
+    ensures { ReadsInit cursor.old cursor.new result (init_here (knot depth) room) }
 {
-    if !begins_init(&place.scopes, kind_at(place.rest)) {
-        return Err(refused(Fault::Unexpected, place.rest));
+    if !begins_init(&cursor.scopes, kind_at(cursor.rest)) {
+        return Err(refused(FaultKind::Unexpected, cursor.rest));
     }
-    room_for(2, room, place)?;
-    init(lent, room.saturating_sub(1), place, depth)
+    room_for(2, room, cursor)?;
+    init(lent, room.saturating_sub(1), cursor, depth)
 }

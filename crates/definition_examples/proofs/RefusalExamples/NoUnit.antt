@@ -12,14 +12,15 @@ use Rattle.c_syntax.specs.declared.parts.Qual.TheVariants as quals
 use Rattle.c_tree.specs.declared.lexeme.Lexeme.{Lexeme}
 use Rattle.c_tree.specs.Tree.{SpecWords, SpecWord, no_words, more_words, storage, thread, inline_word, noreturn, qualifier, basic, struct_type, enum_type, enum_of, typedef_name, attribute, typeof_value, typeof_type, align, auto_word, identifiers, base_name, Declr, pointer, declr_name, declr_paren, array, params, abs_pointer, abs_paren, abs_array, abs_params, InitDeclrs, no_init_declrs, more_init_declrs, declaration, decl_declaration, decl_assert}
 use Rattle.c_tree.specs.Text.{tokens_between, attrs_text, spec_word_text, spec_words_text, declr_text, init_declrs_text}
-use Rattle.c_tree.specs.WellFormed.{is_storage, is_qual, is_struct, is_type_former, is_bare_name, is_named, IsElement, IsElementKind, IsSpecWord, AreSpecWords, IsDeclr, IsInitStart, AreInitDeclrs}
+use Rattle.c_tree.specs.WellFormed.{is_storage, is_qual, is_struct, is_type_former, is_named, IsElement, IsElementKind, IsSpecWord, AreSpecWords, IsDeclr, IsInitStart, AreInitDeclrs}
 use Rattle.c_tree.specs.Specifiers.{IsMix}
 use Rattle.c_tree.specs.Unit.{Item, function_item, old_function_item, decl_item, asm_item, semi_item, item_text, items_text, IsItem}
+use Rattle.c_tree.proofs.NamedDeclarators.{lister_is_named, bare_is_named}
 use Rattle.c_specs.specs.declared.mix.Class.{Class}
 use Rattle.c_specs.specs.Mix.{is_whole_mix, goes_on, class_of, then_class, no_mix}
 use Rattle.c_specs.specs.Laws.{WholeAreMixes, MixesGoOn}
 use Rattle.c_units.specs.Units.{numbered, numbered_from}
-use Rattle.refusal_rules.proofs.Weaker.{function_is_named, lister_is_named}
+use Rattle.refusal_rules.proofs.Weaker.{function_is_named}
 use Rattle.refusal_rules.specs.Allowed.{BeginsUnitOfAnyHeight}
 
 -- a keyword, but for a base word, which may be the name of a typedef
@@ -57,14 +58,43 @@ pub record IsBasicWord (word : Keyword) : Type 0 where
 
 long_is_basic : IsBasicWord words.Long
 long_is_basic =
-    record { no_storage = refl; no_qual = refl; no_struct = refl; no_thread = λ e. absurd cc; no_inline = λ e. absurd cc; no_noreturn = λ e. absurd cc; no_enum = λ e. absurd cc; no_attribute = λ e. absurd cc; no_extension = λ e. absurd cc; no_asm = λ e. absurd cc; no_assert = λ e. absurd cc; no_typeof = λ e. absurd cc; no_type_former = refl; no_align = λ e. absurd cc; no_auto = λ e. absurd cc }
+    record {
+      no_storage = refl;
+      no_qual = refl;
+      no_struct = refl;
+      no_thread = λ e. absurd cc;
+      no_inline = λ e. absurd cc;
+      no_noreturn = λ e. absurd cc;
+      no_enum = λ e. absurd cc;
+      no_attribute = λ e. absurd cc;
+      no_extension = λ e. absurd cc;
+      no_asm = λ e. absurd cc;
+      no_assert = λ e. absurd cc;
+      no_typeof = λ e. absurd cc;
+      no_type_former = refl;
+      no_align = λ e. absurd cc;
+      no_auto = λ e. absurd cc;
+    }
 
 float_is_basic : IsBasicWord words.Float
 float_is_basic =
-    record { no_storage = refl; no_qual = refl; no_struct = refl; no_thread = λ e. absurd cc; no_inline = λ e. absurd cc; no_noreturn = λ e. absurd cc; no_enum = λ e. absurd cc; no_attribute = λ e. absurd cc; no_extension = λ e. absurd cc; no_asm = λ e. absurd cc; no_assert = λ e. absurd cc; no_typeof = λ e. absurd cc; no_type_former = refl; no_align = λ e. absurd cc; no_auto = λ e. absurd cc }
-
-same_kind : (ts us : List Lexeme) → ts ≡ us → first_kind ts ≡ first_kind us
-same_kind ts us e = ap first_kind e
+    record {
+      no_storage = refl;
+      no_qual = refl;
+      no_struct = refl;
+      no_thread = λ e. absurd cc;
+      no_inline = λ e. absurd cc;
+      no_noreturn = λ e. absurd cc;
+      no_enum = λ e. absurd cc;
+      no_attribute = λ e. absurd cc;
+      no_extension = λ e. absurd cc;
+      no_asm = λ e. absurd cc;
+      no_assert = λ e. absurd cc;
+      no_typeof = λ e. absurd cc;
+      no_type_former = refl;
+      no_align = λ e. absurd cc;
+      no_auto = λ e. absurd cc;
+    }
 
 keyword_is : (a b : Keyword) → kinds.Keyword a ≡ kinds.Keyword b → a ≡ b
 keyword_is a b e = cc
@@ -92,41 +122,33 @@ module _ (whole_are : WholeAreMixes) (goes : MixesGoOn) (all : List Lexeme) wher
       (class_of w ≡ class_of (basic (record { token = 0; keyword = word }))) × (rest_of (spec_word_text all w k) ≡ k)
   unfolding first_kind rest_of
   basic_first (storage w) k word is h e =
-      absurd (not_both (is_storage word) (subst (λ (a : Keyword). is_storage a ≡ true) (keyword_is w.keyword word e) h) is.no_storage)
+      absurd (not_both (is_storage word)
+      (subst (λ (a : Keyword). is_storage a ≡ true) (keyword_is w.keyword word e) h) is.no_storage)
   basic_first (thread token) k word is h e = absurd (is.no_thread (sym (keyword_is words.Thread word e)))
   basic_first (inline_word token) k word is h e = absurd (is.no_inline (sym (keyword_is words.Inline word e)))
   basic_first (noreturn token) k word is h e = absurd (is.no_noreturn (sym (keyword_is words.Noreturn word e)))
   basic_first (qualifier (quals.Word w)) k word is h e =
-      absurd (not_both (is_qual word) (subst (λ (a : Keyword). is_qual a ≡ true) (keyword_is w.keyword word e) h.0) is.no_qual)
+      absurd
+      (not_both (is_qual word) (subst (λ (a : Keyword). is_qual a ≡ true) (keyword_is w.keyword word e) h.0) is.no_qual)
   basic_first (qualifier (quals.Element token)) k word is h e =
       absurd (element_first (tokens_between all token token) k word h.0 e)
   basic_first (qualifier (quals.Index token)) k word is h e = absurd cc
   basic_first (basic w) k word is h e =
       (ap (λ (a : Keyword). class_of (basic (record { token = 0; keyword = a }))) (keyword_is w.keyword word e), refl)
   basic_first (struct_type w attrs tag body) k word is h e =
-      absurd (not_both (is_struct word) (subst (λ (a : Keyword). is_struct a ≡ true) (keyword_is w.keyword word e) h.0) is.no_struct)
+      absurd (not_both (is_struct word)
+      (subst (λ (a : Keyword). is_struct a ≡ true) (keyword_is w.keyword word e) h.0) is.no_struct)
   basic_first (enum_type (enum_of keyword attrs tag body)) k word is h e =
       absurd (is.no_enum (sym (keyword_is words.Enum word e)))
   basic_first (typedef_name name) k word is h e = absurd cc
   basic_first (attribute attr) k word is h e = absurd (is.no_attribute (sym (keyword_is words.Attribute word e)))
-  basic_first (typeof_value keyword opening e1 closing) k word is h e = absurd (is.no_typeof (sym (keyword_is words.Typeof word e)))
+  basic_first (typeof_value keyword opening e1 closing) k word is h e =
+      absurd (is.no_typeof (sym (keyword_is words.Typeof word e)))
   basic_first (typeof_type w opening ws d closing) k word is h e =
-      absurd (not_both (is_type_former word) (subst (λ (a : Keyword). is_type_former a ≡ true) (keyword_is w.keyword word e) h.0) is.no_type_former)
+      absurd (not_both (is_type_former word)
+      (subst (λ (a : Keyword). is_type_former a ≡ true) (keyword_is w.keyword word e) h.0) is.no_type_former)
   basic_first (align attr) k word is h e = absurd (is.no_align (sym (keyword_is words.Alignas word e)))
   basic_first (auto_word token) k word is h e = absurd (is.no_auto (sym (keyword_is words.AutoType word e)))
-
-  bare_is_named : (d : Declr) → is_bare_name d ≡ true → is_named d ≡ true
-  bare_is_named (declr_name token name) is = refl
-  bare_is_named (declr_paren opening attrs d closing) is = refl
-  bare_is_named (pointer star words d) is = absurd cc
-  bare_is_named (array d opening words size closing) is = absurd cc
-  bare_is_named (params d opening ps dots closing) is = absurd cc
-  bare_is_named (abs_pointer star words d) is = absurd cc
-  bare_is_named (abs_paren opening attrs d closing) is = absurd cc
-  bare_is_named (abs_array d opening words size closing) is = absurd cc
-  bare_is_named (abs_params d opening ps dots closing) is = absurd cc
-  bare_is_named (identifiers d opening names closing) is = absurd cc
-  bare_is_named (base_name token) is = absurd cc
 
   -- no declarator with a name begins with a keyword
   declr_first : (d : Declr) (k : List Lexeme) → is_named d ≡ true → IsDeclr all d
@@ -176,14 +198,18 @@ module _ (whole_are : WholeAreMixes) (goes : MixesGoOn) (all : List Lexeme) wher
       let next : first_kind k ≡ kinds.Keyword words.Float = ap first_kind (sym long.1 ∙ ap rest_of e) in
       not_both (is_keyword (first_kind k)) (ap is_keyword next) free
   words_first (more_words w (more_words v ws)) k rest a b mix h free e =
-      let long = basic_first w (spec_words_text all (more_words v ws) k) words.Long long_is_basic h.0 (ap first_kind e) in
-      let next : first_kind (spec_words_text all (more_words v ws) k) ≡ kinds.Keyword words.Float = ap first_kind (sym long.1 ∙ ap rest_of e) in
+      let long =
+      basic_first w (spec_words_text all (more_words v ws) k) words.Long long_is_basic h.0 (ap first_kind e) in
+      let next : first_kind (spec_words_text all (more_words v ws) k) ≡ kinds.Keyword words.Float =
+      ap first_kind (sym long.1 ∙ ap rest_of e) in
       let float = basic_first v (spec_words_text all ws k) words.Float float_is_basic h.1.0 next in
       let on : goes_on (more_words w no_words) (class_of v) ≡ true = goes (more_words w no_words) v ws mix in
       let with_float : is_some (then_class (then_class (Some no_mix) (class_of w)) (class_of float_word)) ≡ true =
       subst (λ (c : Class). is_some (then_class (then_class (Some no_mix) (class_of w)) c) ≡ true) float.0 on in
-      let with_long : is_some (then_class (then_class (Some no_mix) (class_of long_word)) (class_of float_word)) ≡ true =
-      subst (λ (c : Class). is_some (then_class (then_class (Some no_mix) c) (class_of float_word)) ≡ true) long.0 with_float in
+      let with_long : is_some (then_class (then_class (Some no_mix) (class_of long_word)) (class_of float_word))
+      ≡ true =
+      subst (λ (c : Class). is_some (then_class (then_class (Some no_mix) c) (class_of float_word))
+      ≡ true) long.0 with_float in
       absurd cc
 
   no_item : (item : Item) (k rest : List Lexeme) (a b : ℕ) → IsItem all item →
@@ -228,4 +254,5 @@ module _ (whole_are : WholeAreMixes) (goes : MixesGoOn) where
   pub no_unit : ¬ BeginsUnitOfAnyHeight false (kinds.Keyword words.Long ∷ kinds.Keyword words.Float ∷ [])
   unfolding first_kind is_keyword
   no_unit b =
-      no_items (numbered (kinds.Keyword words.Long ∷ kinds.Keyword words.Float ∷ b.behind)) (numbered_from 2 b.behind) _ b.items 0 1 b.formed.parts refl (sym b.formed.tokens.spelled)
+      no_items (numbered (kinds.Keyword words.Long ∷ kinds.Keyword words.Float ∷ b.behind))
+      (numbered_from 2 b.behind) _ b.items 0 1 b.formed.parts refl (sym b.formed.tokens.spelled)

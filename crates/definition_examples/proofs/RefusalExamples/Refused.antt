@@ -36,7 +36,8 @@ pointers_derive all (suc n) at d h is =
 -- the declaration of a declarator as an int
 int_item : Declr → ℕ → Item
 int_item d semi =
-    decl_item (decl_declaration (declaration [] (more_words (basic (record { token = 0; keyword = words.Int })) no_words)
+    decl_item
+    (decl_declaration (declaration [] (more_words (basic (record { token = 0; keyword = words.Int })) no_words)
     (more_init_declrs [] d None [] no_init no_init_declrs) semi))
 
 int_item_derives : (all : List Lexeme) (d : Declr) (semi : ℕ) → DerivesDeclr all d → is_named d ≡ true →
@@ -58,7 +59,8 @@ many_pointers_deep =
         record {
           behind = kinds.End ∷ [];
           spelled = record { last = 501; spelled = refl };
-          derived = All-cons (DerivesItem all) item [] (int_item_derives all (pointers 496 1 d) 500 h.0 h.1) (All-nil (DerivesItem all));
+          derived = All-cons (DerivesItem all) item [] (int_item_derives all (pointers 496 1 d) 500 h.0 h.1)
+              (All-nil (DerivesItem all));
         },
       ),
     )
@@ -87,18 +89,25 @@ pub refusals_hold : WholeAreMixes → MixesGoOn → UnitsAreTrees → UnitsBegin
     → NoneIsEarlier → RefusalsHold
 refusals_hold whole_are goes are trees heights none = (
   (
-    from trees none float_behind_long 1 no_mix (float_behind_long_front whole_are) (float_behind_long_bad whole_are goes are),
-    from trees none int_behind_typedef_name 11 no_mix (int_behind_typedef_name_front whole_are) (int_behind_typedef_name_bad whole_are goes are),
+    from trees none float_behind_long 1 no_mix (float_behind_long_front whole_are)
+        (float_behind_long_bad whole_are goes are),
+    from trees none int_behind_typedef_name 11 no_mix (int_behind_typedef_name_front whole_are)
+        (int_behind_typedef_name_bad whole_are goes are),
   ),
   (
-    from trees none object_named_as_typedef 5 other_kind (object_named_as_typedef_front whole_are) (object_named_as_typedef_bad whole_are goes are),
-    from trees none enumerator_named_as_typedef 6 other_kind (enumerator_named_as_typedef_front whole_are) (enumerator_named_as_typedef_bad whole_are goes are),
-    from trees none object_named_as_enumerator 11 other_kind (object_named_as_enumerator_front whole_are) (object_named_as_enumerator_bad whole_are goes are),
+    from trees none object_named_as_typedef 5 other_kind (object_named_as_typedef_front whole_are)
+        (object_named_as_typedef_bad whole_are goes are),
+    from trees none enumerator_named_as_typedef 6 other_kind (enumerator_named_as_typedef_front whole_are)
+        (enumerator_named_as_typedef_bad whole_are goes are),
+    from trees none object_named_as_enumerator 11 other_kind (object_named_as_enumerator_front whole_are)
+        (object_named_as_enumerator_bad whole_are goes are),
   ),
   (
     from trees none sum_assigned 12 no_unary_left (sum_assigned_front whole_are) (sum_assigned_bad whole_are goes are),
-    from trees none conditional_assigned 8 no_unary_left (conditional_assigned_front whole_are) (conditional_assigned_bad whole_are goes are),
-    from trees none cast_assigned 13 no_unary_left (cast_assigned_front whole_are) (cast_assigned_bad whole_are goes are),
+    from trees none conditional_assigned 8 no_unary_left (conditional_assigned_front whole_are)
+        (conditional_assigned_bad whole_are goes are),
+    from trees none cast_assigned 13 no_unary_left (cast_assigned_front whole_are)
+        (cast_assigned_bad whole_are goes are),
   ),
   (
     from trees none held_name_enumerated 7 syntax (held_name_enumerated_front whole_are) tt,

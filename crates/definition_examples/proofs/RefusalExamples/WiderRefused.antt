@@ -35,25 +35,33 @@ wider_hold whole_are goes are trees none = (
     from trees none two_designators 12 syntax (two_designators_front whole_are) tt,
   ),
   (
-    from trees none typeof_behind_int 4 no_mix (typeof_behind_int_front whole_are) (typeof_behind_int_bad whole_are goes are),
-    from trees none int_behind_atomic 4 no_mix (int_behind_atomic_front whole_are) (int_behind_atomic_bad whole_are goes are),
+    from trees none typeof_behind_int 4 no_mix (typeof_behind_int_front whole_are)
+        (typeof_behind_int_bad whole_are goes are),
+    from trees none int_behind_atomic 4 no_mix (int_behind_atomic_front whole_are)
+        (int_behind_atomic_bad whole_are goes are),
     from trees none two_complexes 2 no_mix (two_complexes_front whole_are) (two_complexes_bad whole_are goes are),
   ),
   (
-    from trees none auto_named_as_enumerator 12 other_kind (auto_named_as_enumerator_front whole_are) (auto_named_as_enumerator_bad whole_are goes are),
-    from trees none enumerator_named_as_parameter 10 other_kind (enumerator_named_as_parameter_front whole_are) (enumerator_named_as_parameter_bad whole_are goes are),
+    from trees none auto_named_as_enumerator 12 other_kind (auto_named_as_enumerator_front whole_are)
+        (auto_named_as_enumerator_bad whole_are goes are),
+    from trees none enumerator_named_as_parameter 10 other_kind (enumerator_named_as_parameter_front whole_are)
+        (enumerator_named_as_parameter_bad whole_are goes are),
   ),
   (
-    from trees none begin_of_range_assigned 13 no_unary_left (begin_of_range_assigned_front whole_are) (begin_of_range_assigned_bad whole_are goes are),
-    from trees none end_of_range_assigned 15 no_unary_left (end_of_range_assigned_front whole_are) (end_of_range_assigned_bad whole_are goes are),
+    from trees none begin_of_range_assigned 13 no_unary_left (begin_of_range_assigned_front whole_are)
+        (begin_of_range_assigned_bad whole_are goes are),
+    from trees none end_of_range_assigned 15 no_unary_left (end_of_range_assigned_front whole_are)
+        (end_of_range_assigned_bad whole_are goes are),
   ),
   (
     record {
       unit = identifiers_in_narrow_c_front whole_are;
       tree = trees false (take 3 identifiers_in_narrow_c) (identifiers_in_narrow_c_front whole_are);
       may_be = tt;
-      earlier = λ n other allowed. none false identifiers_in_narrow_c 3 n other (identifiers_in_narrow_c_front whole_are) allowed;
+      earlier = λ n other allowed.
+          none false identifiers_in_narrow_c 3 n other (identifiers_in_narrow_c_front whole_are) allowed;
     },
-    (λ allowed. none true identifiers_declared 5 3 syntax (identifiers_declared_front whole_are) allowed (leb-true 4 5 refl)),
+    (λ allowed.
+        none true identifiers_declared 5 3 syntax (identifiers_declared_front whole_are) allowed (leb-true 4 5 refl)),
   ),
 )

@@ -1,7 +1,6 @@
 -- Small programs of several sources with the whole list of their constraints, their call sites and the owners of their
--- variables, worked
--- out by hand: what passes between sources does so where one declaration is tied to the first one that it is linked
--- with.
+-- variables, worked out by hand: what passes between sources does so where one declaration is tied to the first one
+-- that it is linked with.
 use Rattle.std.specs.Prelude.{ℕ, suc, nat_eq, false, ◌&&◌, List, [], ◌∷◌, Option, None, Some, if◌then◌else◌, is_some}
 use Rattle.c_words.specs.declared.kinds.Keyword.{Keyword}
 use Rattle.c_words.specs.declared.kinds.Keyword.TheVariants as keywords
@@ -61,7 +60,8 @@ behind_mark token ws = more_words (qualifier (quals.Element token)) ws
 
 -- a declaration with these words of one name
 abbrev pub declares : SpecWords → Declr → SomeInit → Item
-declares ws d init = decl_item (decl_declaration (declaration [] ws (more_init_declrs [] d None [] init no_init_declrs) 30))
+declares ws d init =
+    decl_item (decl_declaration (declaration [] ws (more_init_declrs [] d None [] init no_init_declrs) 30))
 
 -- a name at a token that takes an `int`
 abbrev pub takes_int : ℕ → ℕ → SomeDeclr → Declr

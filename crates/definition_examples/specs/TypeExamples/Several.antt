@@ -1,6 +1,6 @@
 -- Small programs of several sources, each with what was worked out for it by hand: what is linked with what, where a
--- body is a second
--- one, and what a source sees of the prelude and of the sources before it. Names have one number in all units.
+-- body is a second one, and what a source sees of the prelude and of the sources before it. Names have one number in
+-- all units.
 use Rattle.std.specs.Prelude.{◌≡◌, ℕ, false, List, [], ◌∷◌, Option, None, Some}
 use Rattle.c_words.specs.declared.kinds.Keyword.{Keyword}
 use Rattle.c_words.specs.declared.kinds.Keyword.TheVariants as keywords
@@ -17,7 +17,13 @@ use Rattle.type_rules.specs.Program.{Source, names_of, faults_of}
 abbrev pub unit_of : ℕ → List Item → Source
 unit_of unit items =
     record {
-      spelling = record { unit = unit; wide = false; annotates = λ token. false; is_naught = λ token. false; key = λ name. name };
+      spelling = record {
+        unit = unit;
+        wide = false;
+        annotates = λ token. false;
+        is_naught = λ token. false;
+        key = λ name. name;
+      };
       items = items;
     }
 
@@ -35,7 +41,8 @@ behind_inline ws = more_words (inline_word 0) ws
 
 -- a declaration with these words of one name
 abbrev pub declares : SpecWords → Declr → SomeInit → Item
-declares ws d init = decl_item (decl_declaration (declaration [] ws (more_init_declrs [] d None [] init no_init_declrs) 20))
+declares ws d init =
+    decl_item (decl_declaration (declaration [] ws (more_init_declrs [] d None [] init no_init_declrs) 20))
 
 -- a declaration with these words alone
 abbrev pub stands_alone : SpecWords → Item
@@ -45,7 +52,8 @@ stands_alone ws = decl_item (decl_declaration (declaration [] ws no_init_declrs 
 abbrev pub of_void : ℕ → ℕ → Declr
 of_void token name =
     params (declr_name token name) 10
-    (more_params (more_words (basic (record { token = 11; keyword = keywords.Void })) no_words) no_declr [] no_params) None 12
+    (more_params (more_words (basic (record { token = 11; keyword = keywords.Void })) no_words) no_declr
+    [] no_params) None 12
 
 -- a function of these words with an empty body
 abbrev pub defines : SpecWords → ℕ → ℕ → Item
@@ -54,10 +62,8 @@ defines ws token name = function_item [] ws (of_void token name) [] 13 no_block_
 -- a struct or union with one `int` member
 abbrev pub with_member : Keyword → Option Identifier → ℕ → ℕ → SpecWord
 with_member keyword tag token name =
-    struct_type (record { token = 1; keyword = keyword }) [] tag
-    (some_body 3
-    (more_struct_items (member [] int_words (more_mem_declrs [] (named (declr_name token name) no_value []) no_mem_declrs) 5)
-    no_struct_items) 6)
+    struct_type (record { token = 1; keyword = keyword }) [] tag (some_body 3 (more_struct_items (member [] int_words
+    (more_mem_declrs [] (named (declr_name token name) no_value []) no_mem_declrs) 5) no_struct_items) 6)
 
 -- a tag of this name
 abbrev pub tag_named : ℕ → Option Identifier
@@ -158,7 +164,8 @@ abbrev pub FirstName : Type 0
 FirstName =
     let sources = unit_of 1 (decl_item (decl_declaration (declaration []
     (behind_storage keywords.Typedef (more_words (with_member keywords.Struct None 4 8) no_words))
-    (more_init_declrs [] (declr_name 7 7) None [] no_init (more_init_declrs [] (declr_name 9 9) None [] no_init no_init_declrs)) 20)) ∷ [])
+    (more_init_declrs [] (declr_name 7 7) None [] no_init
+    (more_init_declrs [] (declr_name 9 9) None [] no_init no_init_declrs)) 20)) ∷ [])
     ∷ unit_of 2 (declares (behind_storage keywords.Typedef (more_words (with_member keywords.Struct None 4 8) no_words))
     (declr_name 7 9) no_init ∷ []) ∷ [] in
     (faults_of sources ≡ []) × (link sources (2, 4) ≡ (2, 4))

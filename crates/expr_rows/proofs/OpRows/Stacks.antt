@@ -72,7 +72,8 @@ joined_last ws w e level h ends =
     let made = joined w e in
     let low = (settle_keeps level s made).low (level_most (operator w.op)) in
     let is = ap (λ (t : Stack). settle_of level t e) (newest_is ws w h) ∙ settle-joins level s (left_of w) e lt in
-    ap (λ (r : Settled). nat_le 14 (expr_level r.last)) is ∙ not_le 14 (expr_level (settle_of level s made).last) (omega (arith, low))
+    ap (λ (r : Settled). nat_le 14 (expr_level r.last)) is
+    ∙ not_le 14 (expr_level (settle_of level s made).last) (omega (arith, low))
 
 pub finished_all : (ws : List Waiting) (e : Expr) (r : Settled) → r ≡ settle_of 0 (stack_of ws) e
     → r.last ≡ finished (stack_of ws) e

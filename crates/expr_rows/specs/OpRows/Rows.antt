@@ -8,7 +8,7 @@ use Rattle.c_nodes.specs.declared.sized.SizedExpr.{SizedExpr}
 use Rattle.c_nodes.specs.Sized.{expr}
 use Rattle.c_ops.specs.Op.{operator_of}
 use Rattle.c_ops.specs.Joining.{Left, Stack, bottom, above, Settled, settle_of, Accepts}
-use Rattle.c_reading.specs.Expressing.{Row, depth_of, with_operand}
+use Rattle.c_reading.specs.Expressing.{OperandRow, depth_of, with_operand}
 use Rattle.expr_rows.specs.declared.op_rows.op.SizedOp.{SizedOp}
 use Rattle.expr_rows.specs.declared.op_rows.waiting.Waiting.{Waiting}
 use Rattle.expr_rows.specs.declared.op_rows.row.OpRow.{OpRow}
@@ -48,7 +48,7 @@ abbrev pub Settles : ℕ → List Waiting → Expr → Result SizedExpr NoMemory
 Settles level before e result after = IfOk result (λ f. settled_at after (expr f) ≡ settle_of level (stack_of before) e)
 
 -- the operands that wait, and the last one
-abbrev pub row_of : OpRow → Row
+abbrev pub row_of : OpRow → OperandRow
 row_of row = record { waiting = stack_of row.waiting.items; last = expr row.last }
 
 -- the same where the last one is the left operand of what comes next
@@ -60,5 +60,5 @@ abbrev pub least_height : Settled → ℕ
 least_height left = depth_of left + expr_height left.last
 
 -- a row with an operator and the operand behind it
-abbrev pub row_with : OpRow → SizedOp → ℕ → SizedExpr → Row
+abbrev pub row_with : OpRow → SizedOp → ℕ → SizedExpr → OperandRow
 row_with row op token e = with_operand (settled_of row) (operator op) token (expr e)

@@ -1,7 +1,8 @@
 -- Stacks are lists turned round, and views go through them.
 use Rattle.std.proofs.Common.{◌≡◌, ◌≢◌, ◌<◌, ◌≤◌, ◌-◌, ◌+◌, ℕ, zero, suc, List, [], ◌∷◌, ◌++◌, length, reverse, map, take, drop, get_or, None, Some, refl, sym, ◌∙◌, ap, arith, take-append-drop, length-append, length-take, length-drop}
-use Rattle.std.proofs.lemmas.List.{get_or-reverse, length-reverse, reverse-append, drop-map}
-use Rattle.type_table.specs.declared.row.Row.{Row}
+use Rattle.std.proofs.lemmas.List.{get_or-reverse, length-reverse, reverse-append, drop-map, get_or_past}
+use Rattle.qual_base.proofs.Lists.{drop_past}
+use Rattle.type_table.specs.declared.row.TypeRow.{TypeRow}
 use Rattle.name_rules.specs.ShapeSteps.State as states
 use Rattle.name_rules.specs.ShapeSteps.Steps as steps
 use Rattle.expr_shapes.specs.declared.shape_stacks.stacks.Operand.{Operand}
@@ -15,18 +16,14 @@ use Rattle.expr_shapes.specs.ShapeStacks.Views.{operand_in, braces_in, open_as, 
 pub length_turned : {A : Type 0} (xs : List A) → length (reverse xs) ≡ length xs
 length_turned xs = length-reverse xs
 
-past : {A : Type 0} (xs : List A) (n : ℕ) (d : A) → length xs ≤ n → get_or xs n d ≡ d
-past [] n d le = refl
-past (x ∷ xs) zero d le = absurd (omega arith)
-past (x ∷ xs) (suc n) d le = past xs n d (omega arith)
-
 pub at_turned : {A : Type 0} (xs : List A) (n : ℕ) (d : A) → n < length xs → get_or (reverse xs) n d ≡
     get_or xs (length xs - 1 - n) d
 at_turned xs n d lt = get_or-reverse xs n d lt
 
 pub past_turned : {A : Type 0} (xs : List A) (n : ℕ) (d : A) → length xs ≤ n → get_or (reverse xs) n d ≡ d
-past_turned xs n d le = past (reverse xs) n d (let l = length-reverse xs in omega arith)
+past_turned xs n d le = get_or_past (reverse xs) n d (let l = length-reverse xs in omega arith)
 
+-- as many items dropped as a list has leave what stands behind it
 drop_front : {A : Type 0} (xs ys : List A) (n : ℕ) → n ≡ length xs → drop n (xs ++ ys) ≡ ys
 drop_front [] ys zero e = refl
 drop_front [] ys (suc n) e = absurd (omega arith)
@@ -46,14 +43,8 @@ pub left_turned : {A : Type 0} (xs : List A) (k : ℕ) → k < length xs → rev
 left_turned {A} xs k lt =
     kept_turned xs (length xs - k) ∙ ap (λ (n : ℕ). drop n (reverse xs)) (let l = length-reverse xs in omega arith)
 
-gone : {A : Type 0} (xs : List A) (k : ℕ) → length xs ≤ k → drop k xs ≡ []
-gone [] zero le = refl
-gone [] (suc k) le = refl
-gone (x ∷ xs) zero le = absurd (omega arith)
-gone (x ∷ xs) (suc k) le = gone xs k (omega arith)
-
 pub none_turned : {A : Type 0} (xs : List A) (k : ℕ) → length xs ≤ k → drop k (reverse xs) ≡ []
-none_turned xs k le = gone (reverse xs) k (let l = length-reverse xs in omega arith)
+none_turned xs k le = drop_past (reverse xs) k (let l = length-reverse xs in omega arith)
 
 pub first_gone : {A : Type 0} (it : A) (xs : List A) → length xs ≢ 0 → it ∷ drop 1 xs ≡ with_first it xs
 first_gone it [] h = absurd (h refl)
@@ -68,25 +59,27 @@ none_gone it (x ∷ xs) e = absurd (omega arith)
 abbrev unknown : Operand
 unknown = operands.NamedType None
 
-pub operand_found : (rows : List Row) (os : List Operand) (n : ℕ) →
+-- the operand of a depth on a stack, or an unknown one below it, shows what is found there
+pub operand_found : (rows : List TypeRow) (os : List Operand) (n : ℕ) →
     operand_in rows (get_or os n unknown) ≡ states.first_operand (drop n (map (operand_in rows) os))
 operand_found rows [] zero = refl
 operand_found rows [] (suc n) = refl
 operand_found rows (it ∷ os) zero = refl
 operand_found rows (it ∷ os) (suc n) = operand_found rows os n
 
-pub drop_viewed : (rows : List Row) (n : ℕ) (os : List Operand) → map (operand_in rows) (drop n os) ≡
+pub drop_viewed : (rows : List TypeRow) (n : ℕ) (os : List Operand) → map (operand_in rows) (drop n os) ≡
     drop n (map (operand_in rows) os)
 drop_viewed rows n os = sym (drop-map (operand_in rows) n os)
 
 -- operands that go from the top, and one that takes their place
 
-pub dropped_viewed : (rows : List Row) (n : ℕ) (st : Stacked) (os : List Operand) → os ≡ drop n st.operands →
+pub dropped_viewed : (rows : List TypeRow) (n : ℕ) (st : Stacked) (os : List Operand) → os ≡ drop n st.operands →
     state_in rows (record st { operands = os }) ≡ states.dropped n (state_in rows st)
 dropped_viewed rows n st os e = ap (λ (os : List Operand). state_in rows (record st { operands = os })) e ∙
     ap (λ (os : List states.Operand). record (state_in rows st) { operands = os }) (drop_viewed rows n st.operands)
 
-pub put_viewed : (rows : List Row) (n : ℕ) (st : Stacked) (it : Operand) (os : List Operand) → os ≡
+-- an operand put in place of so many shows that operand put in place of so many
+pub put_viewed : (rows : List TypeRow) (n : ℕ) (st : Stacked) (it : Operand) (os : List Operand) → os ≡
     it ∷ drop n st.operands → state_in rows (record st { operands = os }) ≡
     states.operand_put n (operand_in rows it) (state_in rows st)
 put_viewed rows n st it os e =
@@ -94,18 +87,18 @@ put_viewed rows n st it os e =
     ap (λ (os : List states.Operand). record (state_in rows st) { operands = operand_in rows it ∷ os })
     (drop_viewed rows n st.operands)
 
-pub first_found : (rows : List Row) (its : List Braces) → braces_in rows (get_or its 0 braces.Untargeted) ≡
+pub first_found : (rows : List TypeRow) (its : List Braces) → braces_in rows (get_or its 0 braces.Untargeted) ≡
     states.first_braces (map (braces_in rows) its)
 first_found rows [] = refl
 first_found rows (it ∷ its) = refl
 
-pub braces_changed : (rows : List Row) (change : states.Braces → states.Braces) (its : List Braces) (new : Braces) →
+pub braces_changed : (rows : List TypeRow) (change : states.Braces → states.Braces) (its : List Braces) (new : Braces) →
     braces_in rows new ≡ change (braces_in rows (get_or its 0 braces.Untargeted)) →
     map (braces_in rows) (with_first new its) ≡ states.changed change (map (braces_in rows) its)
 braces_changed rows change [] new e = refl
 braces_changed rows change (it ∷ its) new e = ap (λ (x : states.Braces). x ∷ map (braces_in rows) its) e
 
-pub braces_left : (rows : List Row) (its : List Braces) → map (braces_in rows) (drop 1 its) ≡
+pub braces_left : (rows : List TypeRow) (its : List Braces) → map (braces_in rows) (drop 1 its) ≡
     states.without_innermost (map (braces_in rows) its)
 braces_left rows [] = refl
 braces_left rows (it ∷ its) = refl
@@ -118,7 +111,7 @@ pub base_found : (ns : List ℕ) → get_or ns 0 0 ≡ states.first_base ns
 base_found [] = refl
 base_found (n ∷ ns) = refl
 
-pub length_viewed : (rows : List Row) (os : List Operand) → length (map (operand_in rows) os) ≡ length os
+pub length_viewed : (rows : List TypeRow) (os : List Operand) → length (map (operand_in rows) os) ≡ length os
 length_viewed rows [] = refl
 length_viewed rows (it ∷ os) = ap suc (length_viewed rows os)
 
@@ -152,7 +145,8 @@ declarations_left (it ∷ its) = refl
 
 -- an initialiser in braces ends
 
-below_viewed : (rows : List Row) (st : Stacked) →
+-- the operands below those of an initialiser in braces show the operands below
+below_viewed : (rows : List TypeRow) (st : Stacked) →
     map (operand_in rows) (drop (length st.operands - get_or st.bases 0 0) st.operands) ≡
     states.operands_below (state_in rows st)
 below_viewed rows st =
@@ -164,7 +158,8 @@ below_viewed rows st =
 abbrev left : Stacked → List Operand → List ℕ → List Braces → Stacked
 left st os ns bs = record st { operands = os; bases = ns; braces = bs }
 
-pub left_viewed : (rows : List Row) (st : Stacked) (os : List Operand) (ns : List ℕ) (bs : List Braces) → os ≡
+-- stacks that leave an initialiser in braces show what the rules' step leaves
+pub left_viewed : (rows : List TypeRow) (st : Stacked) (os : List Operand) (ns : List ℕ) (bs : List Braces) → os ≡
     drop (length st.operands - get_or st.bases 0 0) st.operands → ns ≡ drop 1 st.bases → bs ≡ drop 1 st.braces →
     state_in rows (left st os ns bs) ≡ steps.braces_left (states.operands_below (state_in rows st)) (state_in rows st)
 left_viewed rows st os ns bs e n b =
@@ -182,7 +177,7 @@ left_viewed rows st os ns bs e n b =
     (braces_left rows st.braces)
 
 -- another list in place of the innermost
-pub set_viewed : (rows : List Row) (change : states.Braces → states.Braces) (st : Stacked) (it new : Braces)
+pub set_viewed : (rows : List TypeRow) (change : states.Braces → states.Braces) (st : Stacked) (it new : Braces)
     (bs : List Braces) →
     braces_in rows it ≡ states.first_braces (map (braces_in rows) st.braces) → braces_in rows new ≡
     change (braces_in rows it) → bs ≡ with_first new st.braces →

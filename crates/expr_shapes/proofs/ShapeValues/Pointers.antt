@@ -6,6 +6,7 @@ use Rattle.name_rules.specs.Pieces.{is_function}
 use Rattle.name_rules.specs.Values.{target, is_plain_void_pointer, points_to_function, result_type, takes, count_types}
 use Rattle.expr_shapes.specs.ShapeValues.Views.{is_plain_void, result_of, takes_so_many}
 
+-- a pointer without annotation words is a plain `void *` where it points to a plain `void`
 pub plain_pointer : (t : CType) → is_plain_void_pointer (Some (pointer [] t)) ≡ is_plain_void t
 plain_pointer (base ws) = refl
 plain_pointer (void []) = refl
@@ -24,6 +25,7 @@ plain_with (word ∷ ws) t e = refl
 
 -- functions
 
+-- a pointer points to a function where its target is one
 function_behind : (ws : Words) (t : CType) → points_to_function (pointer ws t) ≡ is_function t
 function_behind ws (base vs) = refl
 function_behind ws (void vs) = refl
@@ -31,6 +33,7 @@ function_behind ws (struct vs n) = refl
 function_behind ws (pointer vs t) = refl
 function_behind ws (function vs ps r e) = refl
 
+-- a type with a target points to a function where the target is one
 pub function_pointed : (v t : CType) → Some t ≡ target v → points_to_function v ≡ is_function t
 function_pointed (base ws) t e = absurd cc
 function_pointed (void ws) t e = absurd cc
@@ -38,6 +41,7 @@ function_pointed (struct ws n) t e = absurd cc
 function_pointed (pointer ws it) t e = function_behind ws it ∙ ap is_function (let same : it ≡ t = cc in same)
 function_pointed (function ws ps r es) t e = absurd cc
 
+-- a type without a target points to no function
 pub no_function : (v : CType) → None ≡ target v → points_to_function v ≡ false
 no_function (base ws) e = refl
 no_function (void ws) e = refl
@@ -45,6 +49,7 @@ no_function (struct ws n) e = refl
 no_function (pointer ws t) e = absurd cc
 no_function (function ws ps r es) e = refl
 
+-- the result of a call of a pointer is that of its target
 result_behind : (ws : Words) (t : CType) → result_type (pointer ws t) ≡ result_of t
 result_behind ws (base vs) = refl
 result_behind ws (void vs) = refl
@@ -52,6 +57,7 @@ result_behind ws (struct vs n) = refl
 result_behind ws (pointer vs t) = refl
 result_behind ws (function vs ps r e) = refl
 
+-- the result of a call of a type with a target is that of the target
 pub result_pointed : (v t : CType) → Some t ≡ target v → result_type v ≡ result_of t
 result_pointed (base ws) t e = absurd cc
 result_pointed (void ws) t e = absurd cc
@@ -59,6 +65,7 @@ result_pointed (struct ws n) t e = absurd cc
 result_pointed (pointer ws it) t e = result_behind ws it ∙ ap result_of (let same : it ≡ t = cc in same)
 result_pointed (function ws ps r es) t e = absurd cc
 
+-- a call of a type without a target has no result
 pub no_result : (v : CType) → None ≡ target v → result_type v ≡ None
 no_result (base ws) e = refl
 no_result (void ws) e = refl
@@ -66,6 +73,7 @@ no_result (struct ws n) e = refl
 no_result (pointer ws t) e = absurd cc
 no_result (function ws ps r es) e = refl
 
+-- a pointer takes so many arguments where its target does
 takes_behind : (ws : Words) (t : CType) (n : ℕ) → takes (pointer ws t) n ≡ takes_so_many t n
 takes_behind ws (base vs) n = refl
 takes_behind ws (void vs) n = refl
@@ -74,6 +82,7 @@ takes_behind ws (pointer vs t) n = refl
 takes_behind ws (function vs ps r None) n = refl
 takes_behind ws (function vs ps r (Some es)) n = refl
 
+-- a type with a target takes so many arguments where the target does
 pub takes_pointed : (v t : CType) (n : ℕ) → Some t ≡ target v → takes v n ≡ takes_so_many t n
 takes_pointed (base ws) t n e = absurd cc
 takes_pointed (void ws) t n e = absurd cc
@@ -82,6 +91,7 @@ takes_pointed (pointer ws it) t n e = takes_behind ws it n ∙
     ap (λ (x : CType). takes_so_many x n) (let same : it ≡ t = cc in same)
 takes_pointed (function ws ps r es) t n e = absurd cc
 
+-- a type without a target takes any number of arguments
 pub takes_other : (v : CType) (n : ℕ) → None ≡ target v → takes v n ≡ true
 takes_other (base ws) n e = refl
 takes_other (void ws) n e = refl

@@ -1,6 +1,6 @@
 -- What is kept of the candidates of a pick.
 use Rattle.std.specs.Prelude.{◌≡◌, ℕ, ◌<◌, Bool, true, false, not, List, [], ◌∷◌, None}
-use Rattle.type_table.specs.declared.row.Row.{Row}
+use Rattle.type_table.specs.declared.row.TypeRow.{TypeRow}
 use Rattle.name_rules.specs.Values.{a_value, Shape, Candidate, no_zeros, have_types, first_ranked, may_be_one}
 use Rattle.expr_shapes.specs.declared.shape_values.shape.ExprShape.{ExprShape}
 use Rattle.expr_shapes.specs.declared.shape_values.picks.Picked.{Picked}
@@ -12,7 +12,7 @@ use Rattle.type_table.specs.Rows.{type_of}
 use Rattle.expr_shapes.specs.ShapeValues.Views.{shape_in, some_value_type}
 
 -- an expression that may be picked, with its type in place of the type's number
-abbrev pub candidate_in : List Row → ExprShape → Bool → Candidate
+abbrev pub candidate_in : List TypeRow → ExprShape → Bool → Candidate
 candidate_in rows shape is_zero = record { shape = shape_in rows shape; is_zero = is_zero }
 
 -- the first candidate, a value of no known type where there is none
@@ -40,7 +40,7 @@ first_by counts.Several first it = first
 
 -- the counts, the first one, whether a type is not known, and the first of the highest rank, of all and of those that
 -- are no zeros
-pub record IsPicked (rows : List Row) (all : List Candidate) (it : Picked) : Type 0 where
+pub record IsPicked (rows : List TypeRow) (all : List Candidate) (it : Picked) : Type 0 where
   pub count : it.count ≡ count_of all
   pub others : it.others ≡ count_of (no_zeros all)
   pub first : shape_in rows it.first ≡ first_shape all
@@ -49,7 +49,7 @@ pub record IsPicked (rows : List Row) (all : List Candidate) (it : Picked) : Typ
   pub highest_other : some_value_type rows it.highest_other ≡ first_ranked (no_zeros all)
 
 -- what the outermost constructors of two types say of whether they may be one
-abbrev pub may_be : List Row → Parts → Bool
+abbrev pub may_be : List TypeRow → Parts → Bool
 may_be rows parts.Same = true
 may_be rows parts.Apart = false
 may_be rows (parts.Of one other) = may_be_one (type_of rows one) (type_of rows other)

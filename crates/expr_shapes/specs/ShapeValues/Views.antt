@@ -1,6 +1,6 @@
 -- Shapes of expressions whose types are numbers of a table.
 use Rattle.std.specs.Prelude.{ℕ, nat_eq, nat_lt, not, Bool, true, false, List, [], ◌∷◌, Option, Some, None}
-use Rattle.type_table.specs.declared.row.Row.{Row}
+use Rattle.type_table.specs.declared.row.TypeRow.{TypeRow}
 use Rattle.type_table.specs.Types.{CType, base, void, struct, pointer, function}
 use Rattle.type_table.specs.Rows.{type_of}
 use Rattle.name_rules.specs.Values.{Shape, a_place, a_value, count_types}
@@ -10,22 +10,22 @@ use Rattle.expr_shapes.specs.declared.shape_values.shape.ExprShape.{ExprShape}
 use Rattle.expr_shapes.specs.declared.shape_values.shape.ExprShape.TheVariants as shapes
 
 -- the type of a value: that of a number, or a pointer to it
-abbrev pub value_type : List Row → ValueType → CType
+abbrev pub value_type : List TypeRow → ValueType → CType
 value_type rows (values.Of ty) = type_of rows ty
 value_type rows (values.PointerTo ty) = pointer [] (type_of rows ty)
 
 -- the type of a value, where it is known
-abbrev pub some_value_type : List Row → Option ValueType → Option CType
+abbrev pub some_value_type : List TypeRow → Option ValueType → Option CType
 some_value_type rows None = None
 some_value_type rows (Some value) = Some (value_type rows value)
 
 -- the type of a number, where there is one
-abbrev pub some_type : List Row → Option ℕ → Option CType
+abbrev pub some_type : List TypeRow → Option ℕ → Option CType
 some_type rows None = None
 some_type rows (Some ty) = Some (type_of rows ty)
 
 -- an expression as a place or a value, with its type in place of the type's number
-abbrev pub shape_in : List Row → ExprShape → Shape
+abbrev pub shape_in : List TypeRow → ExprShape → Shape
 shape_in rows (shapes.Place ty) = a_place (some_type rows ty)
 shape_in rows (shapes.Value value) = a_value (some_value_type rows value)
 

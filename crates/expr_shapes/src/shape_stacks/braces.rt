@@ -2,7 +2,7 @@
 
 ghost use Rattle.std.specs.Prelude.{◌≡◌, false, List, OnOk};
 ghost use Rattle.expr_shapes.specs.ShapeStacks.Stacked.{is_last};
-ghost use Rattle.type_table.specs.declared.row.Row as row;
+ghost use Rattle.type_table.specs.declared.row.TypeRow as row;
 ghost use Rattle.expr_shapes.specs.ShapeValues.Views.{some_type};
 ghost use Rattle.name_rules.specs.ShapeSteps.State as states;
 ghost use Rattle.name_rules.specs.ShapeSteps.Steps as steps;
@@ -19,7 +19,7 @@ impl Stacks {
     #[tactic(auto, using(crate::proofs::ShapeStacks::Lists::length_viewed))]
     pub fn begin(&mut self) -> Result<(), NoMemory>
         ensures { OnOk result
-            ((rows : List row.Row) → state_in rows self.new
+            ((rows : List row.TypeRow) → state_in rows self.new
             ≡ steps.begun (state_in rows self.old)) }
     {
         let count = self.operands.len();
@@ -28,7 +28,7 @@ impl Stacks {
 
     /// What is gone through next. Constant time but for growth.
     pub fn enter(&mut self, it: &Braces) -> Result<(), NoMemory>
-        ensures { OnOk result ((rows : List row.Row)
+        ensures { OnOk result ((rows : List row.TypeRow)
             → state_in rows self.new
             ≡ steps.within (braces_in rows it.now) (state_in rows self.old)) }
     {
@@ -38,7 +38,7 @@ impl Stacks {
     /// What is gone through; outside of all initialisers a list that initialises nothing. Constant time.
     #[tactic(auto, using(crate::proofs::ShapeStacks::Lists::first_found))]
     pub fn braces(&self) -> Braces
-        ensures { (rows : List row.Row) → braces_in rows result
+        ensures { (rows : List row.TypeRow) → braces_in rows result
             ≡ states.first_braces (state_in rows self.now).braces }
     {
         self.braces.at(0, Braces::Untargeted)
@@ -47,7 +47,7 @@ impl Stacks {
     /// The innermost list ends. Constant time.
     #[tactic(auto, using(crate::proofs::ShapeStacks::Lists::braces_left))]
     pub fn leave_list(&mut self)
-        ensures { (rows : List row.Row) → state_in rows self.new
+        ensures { (rows : List row.TypeRow) → state_in rows self.new
             ≡ steps.list_left (state_in rows self.old) }
     {
         self.braces.take_off(1);
@@ -56,14 +56,14 @@ impl Stacks {
     /// How many operands are above those under the innermost initialiser in braces. Constant time.
     #[tactic(auto, using(crate::proofs::ShapeStacks::Lists::length_viewed, crate::proofs::ShapeStacks::Lists::base_found))]
     pub fn depth_below(&self) -> usize
-        ensures { (rows : List row.Row) → result ≡ states.depth_below (state_in rows self.now) }
+        ensures { (rows : List row.TypeRow) → result ≡ states.depth_below (state_in rows self.now) }
     {
         self.operands.len().saturating_sub(self.bases.at(0, 0))
     }
 
     /// The list of a compound literal is gone through next. Constant time but for growth.
     pub fn enter_literal(&mut self) -> Result<(), NoMemory>
-        ensures { OnOk result ((rows : List row.Row)
+        ensures { OnOk result ((rows : List row.TypeRow)
             → state_in rows self.new
             ≡ steps.within (states.whole
             (states.type_at (states.depth_below (state_in rows self.old)) (state_in rows self.old)))
@@ -75,7 +75,7 @@ impl Stacks {
 
     /// The innermost initialiser in braces ends, with its operands. Constant time for each of these.
     pub fn leave(&mut self)
-        ensures { (rows : List row.Row) → state_in rows self.new
+        ensures { (rows : List row.TypeRow) → state_in rows self.new
             ≡ steps.braces_left (states.operands_below (state_in rows self.old))
             (state_in rows self.old) }
     {
@@ -87,7 +87,7 @@ impl Stacks {
 
     /// A compound literal ends, with its operands and its type, and is an operand itself. Constant time for each operand.
     pub fn leave_literal(&mut self) -> Result<(), NoMemory>
-        ensures { OnOk result ((rows : List row.Row) → state_in rows self.new
+        ensures { OnOk result ((rows : List row.TypeRow) → state_in rows self.new
             ≡ steps.braces_left (steps.literal_put (states.operands_below (state_in rows self.old)))
             (state_in rows self.old)) }
     {
@@ -98,7 +98,7 @@ impl Stacks {
 
     /// The next item of the innermost list is behind us. Constant time.
     pub fn pass(&mut self) -> Result<(), NoMemory>
-        ensures { OnOk result ((rows : List row.Row)
+        ensures { OnOk result ((rows : List row.TypeRow)
             → state_in rows self.new ≡ steps.in_braces steps.with_item (state_in rows self.old)) }
     {
         let it = self.braces();
@@ -135,7 +135,7 @@ fn is_last(it: &Braces) -> bool
 /// A list behind an item.
 fn passed(it: &Braces) -> Braces
     requires { is_last it.now ≡ false }
-    ensures { (rows : List row.Row) → braces_in rows result
+    ensures { (rows : List row.TypeRow) → braces_in rows result
         ≡ steps.with_item (braces_in rows it.now) }
 {
     match it {

@@ -1,7 +1,7 @@
 //! Operands.
 
 ghost use Rattle.std.specs.Prelude.{◌≡◌, List, OnOk};
-ghost use Rattle.type_table.specs.declared.row.Row as row;
+ghost use Rattle.type_table.specs.declared.row.TypeRow as row;
 ghost use Rattle.expr_shapes.specs.ShapeValues.Views.{shape_in, some_type, some_value_type};
 ghost use Rattle.name_rules.specs.ShapeSteps.State as states;
 ghost use Rattle.expr_shapes.specs.ShapeStacks.Views.{state_in, operand_in};
@@ -14,7 +14,7 @@ use type_table::TypeTable;
 impl Operand {
     /// What an expression is.
     fn shape(&self) -> ExprShape
-        ensures { (rows : List row.Row) → shape_in rows result
+        ensures { (rows : List row.TypeRow) → shape_in rows result
             ≡ states.shape_of_operand (operand_in rows self.now) }
     {
         match self {
@@ -25,7 +25,7 @@ impl Operand {
 
     /// Whether it is a zero.
     fn is_zero(&self) -> bool
-        ensures { (rows : List row.Row) → result
+        ensures { (rows : List row.TypeRow) → result
             ≡ states.is_zero_operand (operand_in rows self.now) }
     {
         match self {
@@ -36,7 +36,7 @@ impl Operand {
 
     /// The type that was named.
     fn named_type(&self) -> Option<TypeId>
-        ensures { (rows : List row.Row) → some_type rows result
+        ensures { (rows : List row.TypeRow) → some_type rows result
             ≡ states.type_of_operand (operand_in rows self.now) }
     {
         match self {
@@ -50,7 +50,7 @@ impl Stacks {
     /// The operand with so many above it; past the bottom there are types that are not known. Constant time.
     #[tactic(auto, using(crate::proofs::ShapeStacks::Lists::operand_found))]
     fn operand_at(&self, depth: usize) -> Operand
-        ensures { (rows : List row.Row) → operand_in rows result
+        ensures { (rows : List row.TypeRow) → operand_in rows result
             ≡ states.operand_at depth (state_in rows self.now) }
     {
         self.operands.at(depth, Operand::NamedType(None))
@@ -58,7 +58,7 @@ impl Stacks {
 
     /// What the expression with so many operands above it is. Constant time.
     pub fn shape_at(&self, depth: usize) -> ExprShape
-        ensures { (rows : List row.Row) → shape_in rows result
+        ensures { (rows : List row.TypeRow) → shape_in rows result
             ≡ states.shape_at depth (state_in rows self.now) }
     {
         self.operand_at(depth).shape()
@@ -74,7 +74,7 @@ impl Stacks {
 
     /// Whether it is a zero. Constant time.
     pub fn is_zero_at(&self, depth: usize) -> bool
-        ensures { (rows : List row.Row) → result
+        ensures { (rows : List row.TypeRow) → result
             ≡ states.is_zero_at depth (state_in rows self.now) }
     {
         self.operand_at(depth).is_zero()
@@ -82,7 +82,7 @@ impl Stacks {
 
     /// The type that was named with so many operands above it. Constant time.
     pub fn type_at(&self, depth: usize) -> Option<TypeId>
-        ensures { (rows : List row.Row) → some_type rows result
+        ensures { (rows : List row.TypeRow) → some_type rows result
             ≡ states.type_at depth (state_in rows self.now) }
     {
         self.operand_at(depth).named_type()
@@ -90,7 +90,7 @@ impl Stacks {
 
     /// An operand takes the place of so many. Constant time for each, but for growth.
     fn put_operand(&mut self, count: usize, it: &Operand) -> Result<(), NoMemory>
-        ensures { OnOk result ((rows : List row.Row)
+        ensures { OnOk result ((rows : List row.TypeRow)
             → state_in rows self.new
             ≡ states.operand_put count (operand_in rows it.now) (state_in rows self.old)) }
     {
@@ -100,7 +100,7 @@ impl Stacks {
 
     /// An expression takes the place of so many operands. Constant time for each, but for growth.
     pub fn put(&mut self, count: usize, shape: &ExprShape, is_zero: bool) -> Result<(), NoMemory>
-        ensures { OnOk result ((rows : List row.Row)
+        ensures { OnOk result ((rows : List row.TypeRow)
             → state_in rows self.new
             ≡ states.operand_put count (states.expression (shape_in rows shape.now) is_zero)
             (state_in rows self.old)) }
@@ -111,7 +111,7 @@ impl Stacks {
 
     /// A type takes the place of so many operands. Constant time for each, but for growth.
     pub fn put_type(&mut self, count: usize, ty: &Option<TypeId>) -> Result<(), NoMemory>
-        ensures { OnOk result ((rows : List row.Row)
+        ensures { OnOk result ((rows : List row.TypeRow)
             → state_in rows self.new
             ≡ states.operand_put count (states.named_type (some_type rows ty.now))
             (state_in rows self.old)) }
@@ -121,7 +121,7 @@ impl Stacks {
 
     /// So many operands go. Constant time for each.
     pub fn drop_operands(&mut self, count: usize)
-        ensures { (rows : List row.Row) → state_in rows self.new
+        ensures { (rows : List row.TypeRow) → state_in rows self.new
             ≡ states.dropped count (state_in rows self.old) }
     {
         self.operands.take_off(count);

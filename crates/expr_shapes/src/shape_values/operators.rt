@@ -1,7 +1,7 @@
 //! What operators make of the types of their operands.
 
 ghost use Rattle.std.specs.Prelude.{◌≡◌, List, []};
-ghost use Rattle.type_table.specs.declared.row.Row as row;
+ghost use Rattle.type_table.specs.declared.row.TypeRow as row;
 ghost use Rattle.type_table.specs.Types.{base};
 ghost use Rattle.type_table.specs.Rows.{type_of};
 ghost use Rattle.name_rules.specs.Values as rules;
@@ -161,7 +161,7 @@ pub fn prefix(types: &TypeTable, plain: TypeId, sign: Punct, operand: &ExprShape
 
 /// Of an assignment, by its target. Constant time.
 pub fn assigned(left: &ExprShape) -> ExprShape
-    ensures { (rows : List row.Row) → shape_in rows result
+    ensures { (rows : List row.TypeRow) → shape_in rows result
         ≡ uses.assigned_shape (shape_in rows left.now) }
 {
     match left {

@@ -1,7 +1,7 @@
 //! Picks: which of several expressions may be what a choice or a selection by a type gives, and of which type that is.
 
 ghost use Rattle.std.specs.Prelude.{◌≡◌, ◌||◌, ◌∷◌, ◌++◌, [], List, is_some, not};
-ghost use Rattle.type_table.specs.declared.row.Row as row;
+ghost use Rattle.type_table.specs.declared.row.TypeRow as row;
 ghost use Rattle.type_table.specs.Rows.{type_of};
 ghost use Rattle.name_rules.specs.Values as rules;
 ghost use Rattle.expr_shapes.specs.ShapeValues.Views.{value_type, some_value_type, some_type, shape_in};
@@ -124,7 +124,7 @@ fn more(count: Count) -> Count
 
 /// Whether some type is not known, with one more value. Constant time.
 fn unknown_with(is_unknown: bool, value: &Option<ValueType>) -> bool
-    ensures { (rows : List row.Row) → result
+    ensures { (rows : List row.TypeRow) → result
         ≡ (is_unknown || not (is_some (some_value_type rows value.now))) }
 {
     match value {
@@ -172,7 +172,7 @@ fn higher(
 impl Picked {
     /// Of no candidates.
     pub fn new() -> Self
-        ensures { (rows : List row.Row) → IsPicked rows [] result }
+        ensures { (rows : List row.TypeRow) → IsPicked rows [] result }
     {
         Picked {
             count: Count::Nothing,
@@ -186,7 +186,7 @@ impl Picked {
 
     /// The first candidate, behind one more. Constant time.
     fn first_with(&self, shape: &ExprShape) -> ExprShape
-        ensures { (rows : List row.Row) → shape_in rows result
+        ensures { (rows : List row.TypeRow) → shape_in rows result
             ≡ first_by self.now.count (shape_in rows self.now.first) (shape_in rows shape.now) }
     {
         match self.count {
@@ -213,8 +213,8 @@ impl Picked {
 
     /// The type of the highest rank of those that are left. Constant time.
     fn highest_left(&self) -> Option<ValueType>
-        ensures { (rows : List row.Row) (all : List rules.Candidate) → IsPicked rows all self.now
-            → some_value_type rows result ≡ rules.first_ranked (rules.left_of all) }
+        ensures { (rows : List row.TypeRow) (all : List rules.Candidate) → IsPicked rows all
+            self.now → some_value_type rows result ≡ rules.first_ranked (rules.left_of all) }
     {
         match self.others {
             Count::Nothing => self.highest,
@@ -224,8 +224,8 @@ impl Picked {
 
     /// The value of a pick of several candidates. Constant time.
     fn value(&self) -> Option<ValueType>
-        ensures { (rows : List row.Row) (all : List rules.Candidate) → IsPicked rows all self.now
-            → some_value_type rows result ≡ rules.picked_value all }
+        ensures { (rows : List row.TypeRow) (all : List rules.Candidate) → IsPicked rows all
+            self.now → some_value_type rows result ≡ rules.picked_value all }
     {
         if self.is_unknown {
             None
@@ -236,8 +236,8 @@ impl Picked {
 
     /// What is picked. Constant time.
     pub fn shape(&self) -> ExprShape
-        ensures { (rows : List row.Row) (all : List rules.Candidate) → IsPicked rows all self.now
-            → shape_in rows result ≡ rules.pick_shape all }
+        ensures { (rows : List row.TypeRow) (all : List rules.Candidate) → IsPicked rows all
+            self.now → shape_in rows result ≡ rules.pick_shape all }
     {
         match self.count {
             Count::Nothing => ExprShape::Value(None),
@@ -248,8 +248,8 @@ impl Picked {
 
     /// Whether several candidates are left, so that the pick has a value of its own.
     pub fn is_fresh(&self) -> bool
-        ensures { (rows : List row.Row) (all : List rules.Candidate) → IsPicked rows all self.now
-            → result ≡ rules.is_fresh_pick all }
+        ensures { (rows : List row.TypeRow) (all : List rules.Candidate) → IsPicked rows all
+            self.now → result ≡ rules.is_fresh_pick all }
     {
         match self.others {
             Count::Nothing => matches!(self.count, Count::Several),

@@ -1,7 +1,7 @@
 //! Values that are read from places, and what pointers point at.
 
 ghost use Rattle.std.specs.Prelude.{◌≡◌, List};
-ghost use Rattle.type_table.specs.declared.row.Row as row;
+ghost use Rattle.type_table.specs.declared.row.TypeRow as row;
 ghost use Rattle.type_table.specs.Rows.{type_of};
 ghost use Rattle.name_rules.specs.Values as rules;
 ghost use Rattle.expr_shapes.specs.ShapeValues.Views.{value_type, some_value_type, some_type, shape_in, is_plain_void};
@@ -92,7 +92,7 @@ pub fn target(types: &TypeTable, value: &Option<ValueType>) -> Option<TypeId>
 
 /// A pointer to what is in a place. Constant time.
 pub fn address(shape: &ExprShape) -> Option<ValueType>
-    ensures { (rows : List row.Row) → some_value_type rows result
+    ensures { (rows : List row.TypeRow) → some_value_type rows result
         ≡ rules.address (shape_in rows shape.now) }
 {
     match shape {

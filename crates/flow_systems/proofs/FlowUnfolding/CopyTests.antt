@@ -16,7 +16,8 @@ calls_at : (sys : System) (s : ℕ) (owner : Owner) (o : Option Site) → slice_
     → has_target o owner ≡ true → Calls sys s (owner_at o) owner
 calls_at sys s owner None e h = absurd cc
 calls_at sys s Nobody (Some it) e h = absurd cc
-calls_at sys s (Function f) (Some it) e h = record { it = it; there = e; outer_is = refl; inner_is = ap (λ (g : ℕ). Function g) (eqb-true f it.target h) }
+calls_at sys s (Function f) (Some it) e h =
+    record { it = it; there = e; outer_is = refl; inner_is = ap (λ (g : ℕ). Function g) (eqb-true f it.target h) }
 
 calls_is : (sys : System) (s : ℕ) (owner : Owner) → calls sys s owner ≡ true → Calls sys s (outer_of sys s) owner
 calls_is sys s owner h = calls_at sys s owner (slice_get sys.sites s) refl h
@@ -52,7 +53,9 @@ string_test sys owner (s ∷ t ∷ w) h =
 pub copy_is : (sys : System) (depth : ℕ) (owner : Owner) (w : List ℕ) → is_copy sys depth owner w ≡ true
     → IsCopy sys depth owner w
 copy_is sys depth Nobody [] h = refl
-copy_is sys depth Nobody (s ∷ w) h = let none : length (s ∷ w) ≡ 0 = eqb-true (length (s ∷ w)) 0 h in absurd (omega (arith, none))
+copy_is sys depth Nobody (s ∷ w) h =
+    let none : length (s ∷ w) ≡ 0 = eqb-true (length (s ∷ w)) 0 h in
+    absurd (omega (arith, none))
 copy_is sys depth (Function f) w h =
     let parts = and_parts (nat_le (length w) depth) (is_call_string sys (Function f) w) h in
     (string_is sys (Function f) w parts.1, leb-true (length w) depth parts.0)
@@ -62,7 +65,8 @@ pub copy_test : (sys : System) (depth : ℕ) (owner : Owner) (w : List ℕ) → 
     → is_copy sys depth owner w ≡ true
 copy_test sys depth Nobody w h = eq-eqb (length w) 0 (ap length h)
 copy_test sys depth (Function f) w h =
-    and_from (nat_le (length w) depth) (is_call_string sys (Function f) w) (le-leb (length w) depth h.1) (string_test sys (Function f) w h.0)
+    and_from (nat_le (length w) depth) (is_call_string sys (Function f) w) (le-leb (length w) depth h.1)
+    (string_test sys (Function f) w h.0)
 
 -- the sites of a call string are among those of the system
 string_below : (sys : System) (owner : Owner) (w : List ℕ) → IsCallString sys owner w → AreBelow (length sys.sites) w
@@ -98,8 +102,11 @@ pub entered_is : (sys : System) (depth s t : ℕ) (w : List ℕ) → is_entered 
 entered_is sys depth s t w h =
     let outer = is_outer_copy sys depth (slice_get sys.sites s) w in
     let parts = and_parts (nat_eq t s) (nat_le (length (t ∷ w)) depth && outer) h in
-    let rest = and_parts (nat_le (length (t ∷ w)) depth) outer parts.1 in
-    (eqb-true t s parts.0, outer_copy_is sys depth (slice_get sys.sites s) w rest.1, leb-true (length (t ∷ w)) depth rest.0)
+    let rest = and_parts (nat_le (length (t ∷ w)) depth) outer parts.1 in (
+      eqb-true t s parts.0,
+      outer_copy_is sys depth (slice_get sys.sites s) w rest.1,
+      leb-true (length (t ∷ w)) depth rest.0,
+    )
 
 -- a copy of a site's owner with the site in front, within the depth, is found to be entered by the site
 pub entered_test : (sys : System) (depth s : ℕ) (site : Site) (w : List ℕ) → slice_get sys.sites s ≡ Some site
@@ -108,4 +115,5 @@ pub entered_test : (sys : System) (depth s : ℕ) (site : Site) (w : List ℕ) �
 entered_test sys depth s site w there copy short =
     let outer = is_outer_copy sys depth (slice_get sys.sites s) w in
     let outer_is : outer ≡ true = rw there (copy_test sys depth site.owner w copy) in
-    and_from (nat_eq s s) (nat_le (length (s ∷ w)) depth && outer) (eq-eqb s s refl) (and_from (nat_le (length (s ∷ w)) depth) outer (le-leb (length (s ∷ w)) depth short) outer_is)
+    and_from (nat_eq s s) (nat_le (length (s ∷ w)) depth && outer) (eq-eqb s s refl)
+    (and_from (nat_le (length (s ∷ w)) depth) outer (le-leb (length (s ∷ w)) depth short) outer_is)

@@ -7,7 +7,9 @@ use Rattle.std.proofs.lemmas.List.Elements.{Contains-push, Contains-append_left}
 use Rattle.flow_systems.specs.FlowUnfolding.Strings.{HasAll}
 
 pub kept_push : (old new : List (List ℕ)) (y w : List ℕ) → new ≡ old ++ y ∷ [] → Contains old w → Contains new w
-kept_push old new y w is there = let Has : List (List ℕ) → Type 0 = λ k. Contains k w in subst Has (sym is) (Contains-append_left old (y ∷ []) w there)
+kept_push old new y w is there =
+    let Has : List (List ℕ) → Type 0 = λ k. Contains k w in
+    subst Has (sym is) (Contains-append_left old (y ∷ []) w there)
 
 -- pushing one more string with the site in front adds it to those that were added
 pub added_push : (old new strings : List (List ℕ)) (site i : ℕ) (x y : List ℕ) → new ≡ old ++ y ∷ [] → y ≡ site ∷ x
@@ -29,7 +31,8 @@ pub added_all : (strings all : List (List ℕ)) (site i : ℕ) → length string
     ((k : ℕ) (w : List ℕ) → k < i → slice_get strings k ≡ Some w → Contains all (site ∷ w)) → (w : List ℕ)
     → Contains strings w → Contains all (site ∷ w)
 added_all strings all site i end added w there =
-    added there.0 w (omega (arith, end, there.1)) (slice_get_read strings (length strings) there.0 w refl there.1 (sym there.2))
+    added there.0 w (omega (arith, end, there.1))
+    (slice_get_read strings (length strings) there.0 w refl there.1 (sym there.2))
 
 -- the empty string alone is all strings of no site
 pub all_none : (strings : List (List ℕ)) (x : List ℕ) (count : ℕ) → strings ≡ x ∷ [] → x ≡ [] → HasAll strings count 0
@@ -42,7 +45,8 @@ all_none strings x count one is (s ∷ w) below short = absurd (omega (arith, sh
 pub all_longer : (strings all : List (List ℕ)) (count depth : ℕ) → HasAll strings count depth → Contains all [] →
     ((s : ℕ) (w : List ℕ) → s < count → Contains strings w → Contains all (s ∷ w)) → HasAll all count (depth + 1)
 all_longer strings all count depth has empty added [] below short = empty
-all_longer strings all count depth has empty added (s ∷ w) below short = added s w below.0 (has w below.1 (omega (arith, short)))
+all_longer strings all count depth has empty added (s ∷ w) below short =
+    added s w below.0 (has w below.1 (omega (arith, short)))
 
 -- what is true of the first strings and of the next one is true of one string more
 pub true_more : (P : List ℕ → Type 0) (strings : List (List ℕ)) (i : ℕ) (x : List ℕ) → x ≡ get_or strings i x →

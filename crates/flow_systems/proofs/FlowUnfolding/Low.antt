@@ -23,7 +23,9 @@ changed_has : (P : ℕ → Type 0) (map : Assignment) (u : ℕ) (x : List ℕ) (
 changed_has P map u x e v w stays new = by_test (is_same u x v w) refl
   where
     by_test : (b : Bool) → is_same u x v w ≡ b → P (cond b e (map v w))
-    by_test true is = let parts = and_parts (nat_eq u v) (bytes_eq x w) is in new (eqb-true u v parts.0) ((bytes_decides x w).0 parts.1)
+    by_test true is =
+        let parts = and_parts (nat_eq u v) (bytes_eq x w) is in
+        new (eqb-true u v parts.0) ((bytes_decides x w).0 parts.1)
     by_test false is = stays
 
 module _ (sys : System) (lattice : ℕ) (order : Order) (depth : ℕ) where
@@ -41,19 +43,22 @@ module _ (sys : System) (lattice : ℕ) (order : Order) (depth : ℕ) where
   begins_below map other ordered low rises n (Le u v) w st is =
       ordered.through (at sys map u w) (at sys other u w) (at sys other v w) (low u (seen_from (owner_of sys u) w))
       (rises.le n u v w st (copy_is sys depth (either (owner_of sys u) (owner_of sys v)) w is))
-  begins_below map other ordered low rises n (Const l e v) w st is = rises.const n e v w (named_here n l e v st) (copy_is sys depth (owner_of sys v) w is)
+  begins_below map other ordered low rises n (Const l e v) w st is =
+      rises.const n e v w (named_here n l e v st) (copy_is sys depth (owner_of sys v) w is)
   begins_below map other ordered low rises n (Bound v l e) w st is = low v (seen_from (owner_of sys v) w)
   begins_below map other ordered low rises n (Enter s u v) [] st is = absurd cc
   begins_below map other ordered low rises n (Enter s u v) (t ∷ w) st is =
       let parts = entered_is sys depth s t w is in
       let Fits : ℕ → Type 0 = λ k. leq order (at sys other u w) (at sys other v (k ∷ w)) ≡ true in
-      ordered.through (at sys map u w) (at sys other u w) (at sys other v (t ∷ w)) (low u (seen_from (owner_of sys u) w))
+      ordered.through (at sys map u w) (at sys other u w) (at sys other v (t ∷ w))
+      (low u (seen_from (owner_of sys u) w))
       (subst Fits (sym parts.0) (rises.enter n s u v parts.1.0 w st parts.1.1 parts.1.2 (omega (arith, parts.2))))
   begins_below map other ordered low rises n (Leave s u v) [] st is = absurd cc
   begins_below map other ordered low rises n (Leave s u v) (t ∷ w) st is =
       let parts = entered_is sys depth s t w is in
       let Fits : ℕ → Type 0 = λ k. leq order (at sys other u (k ∷ w)) (at sys other v w) ≡ true in
-      ordered.through (at sys map u (t ∷ w)) (at sys other u (t ∷ w)) (at sys other v w) (low u (seen_from (owner_of sys u) (t ∷ w)))
+      ordered.through (at sys map u (t ∷ w)) (at sys other u (t ∷ w)) (at sys other v w)
+      (low u (seen_from (owner_of sys u) (t ∷ w)))
       (subst Fits (sym parts.0) (rises.leave n s u v parts.1.0 w st parts.1.1 parts.1.2 (omega (arith, parts.2))))
 
   -- a link begins at an element
@@ -69,17 +74,20 @@ module _ (sys : System) (lattice : ℕ) (order : Order) (depth : ℕ) where
   pub raised_low : (old new : Assignment) → IsOrder order → IsLow sys lattice order depth old
       → (n : ℕ) (link : Link) (w : List ℕ) → Stands sys lattice n link →
       stands sys depth link w ≡ true →
-      Raises order old new (link_ends link) (seen_from (owner_of sys (link_ends link)) (end_sites link w)) (begin_element sys old link w) → IsLow sys lattice order depth new
+      Raises order old new (link_ends link) (seen_from (owner_of sys (link_ends link)) (end_sites link w))
+      (begin_element sys old link w) → IsLow sys lattice order depth new
   raised_low old new ordered low n link w st is raises =
       let end : ℕ = link_ends link in
       let copy : List ℕ = seen_from (owner_of sys end) (end_sites link w) in
       let Inside : ℕ → Type 0 = λ k. k < size order in
       record {
         elements = λ v x. subst Inside (sym (raises.changes v x))
-            (changed_has Inside old end copy raises.join v x (low.elements v x) (λ e f. (ordered.inside (old end copy) raises.join raises.least.left).1));
+            (changed_has Inside old end copy raises.join v x (low.elements v x)
+            (λ e f. (ordered.inside (old end copy) raises.join raises.least.left).1));
         below = λ other rises v x.
             let Under : ℕ → Type 0 = λ k. leq order k (other v x) ≡ true in
-            subst Under (sym (raises.changes v x)) (changed_has Under old end copy raises.join v x (low.below other rises v x)
+            subst Under (sym (raises.changes v x))
+            (changed_has Under old end copy raises.join v x (low.below other rises v x)
             (λ e f.
             let Var : ℕ → Type 0 = λ k. leq order raises.join (other k x) ≡ true in
             let Sites : List ℕ → Type 0 = λ k. leq order raises.join (other end k) ≡ true in
@@ -90,14 +98,18 @@ module _ (sys : System) (lattice : ℕ) (order : Order) (depth : ℕ) where
   -- the same with names for the parts of the raised copy
   pub step_low : (old new : Assignment) → IsOrder order → IsLow sys lattice order depth old
       → (n : ℕ) (link : Link) (w : List ℕ) → Stands sys lattice n link →
-      stands sys depth link w ≡ true → (end : ℕ) (owner : Owner) (ends copy : List ℕ) (e : ℕ) → end ≡ link_ends link → owner ≡ owner_of sys end → ends ≡ end_sites link w →
-      copy ≡ seen_from owner ends → e ≡ begin_element sys old link w → Raises order old new end copy e → IsLow sys lattice order depth new
+      stands sys depth link w ≡ true → (end : ℕ) (owner : Owner) (ends copy : List ℕ) (e : ℕ) → end ≡ link_ends link
+      → owner ≡ owner_of sys end → ends ≡ end_sites link w →
+      copy ≡ seen_from owner ends → e ≡ begin_element sys old link w → Raises order old new end copy e
+      → IsLow sys lattice order depth new
   step_low old new ordered low n link w st is end owner ends copy e end_is owner_is ends_is copy_is_seen e_is raises =
       let seen : copy ≡ seen_from (owner_of sys (link_ends link)) (end_sites link w) =
-      copy_is_seen ∙ ap (λ o. seen_from o ends) (owner_is ∙ ap (λ v. owner_of sys v) end_is) ∙ ap (λ x. seen_from (owner_of sys (link_ends link)) x) ends_is in
+      copy_is_seen ∙ ap (λ o. seen_from o ends) (owner_is ∙ ap (λ v. owner_of sys v) end_is)
+      ∙ ap (λ x. seen_from (owner_of sys (link_ends link)) x) ends_is in
       let At : ℕ → Type 0 = λ k. Raises order old new k copy e in
       let Copy : List ℕ → Type 0 = λ k. Raises order old new (link_ends link) k e in
-      let By : ℕ → Type 0 = λ k. Raises order old new (link_ends link) (seen_from (owner_of sys (link_ends link)) (end_sites link w)) k in
+      let By : ℕ → Type 0 =
+      λ k. Raises order old new (link_ends link) (seen_from (owner_of sys (link_ends link)) (end_sites link w)) k in
       raised_low old new ordered low n link w st is (subst By e_is (subst Copy seen (subst At end_is raises)))
 
   -- where the least assignment is not below a bound, none meets the unfolding
@@ -107,15 +119,18 @@ module _ (sys : System) (lattice : ℕ) (order : Order) (depth : ℕ) where
       let copy = copy_is sys depth (owner_of sys over.var) over.sites over.in_copy in
       let under : leq order (at sys map over.var over.sites) over.element ≡ true =
       ordered.through (at sys map over.var over.sites) (at sys other over.var over.sites) over.element
-      (low.below other meets.rises over.var (seen_from (owner_of sys over.var) over.sites)) (meets.bound over.number over.element over.var over.sites over.bound copy) in
+      (low.below other meets.rises over.var (seen_from (owner_of sys over.var) over.sites))
+      (meets.bound over.number over.element over.var over.sites over.bound copy) in
       let both : true ≡ false = sym under ∙ over.over in absurd cc
 
   -- where some assignment meets the unfolding, each constant and bound names an element
   pub met_names : (other : Assignment) → IsOrder order → Meets sys lattice order depth other
       → NamesElementsIn sys lattice order
   met_names other ordered meets = record {
-    const = λ n e v st. (ordered.inside e (at sys other v []) (meets.rises.const n e v [] st (root_copy sys depth (owner_of sys v)))).0;
-    bound = λ n v b st. (ordered.inside (at sys other v []) b (meets.bound n b v [] st (root_copy sys depth (owner_of sys v)))).1;
+    const = λ n e v st.
+        (ordered.inside e (at sys other v []) (meets.rises.const n e v [] st (root_copy sys depth (owner_of sys v)))).0;
+    bound = λ n v b st.
+        (ordered.inside (at sys other v []) b (meets.bound n b v [] st (root_copy sys depth (owner_of sys v)))).1;
   }
 
 -- the two outcomes of raising

@@ -59,7 +59,8 @@ is_outer_copy sys depth (Some site) w = is_copy sys depth site.owner w
 
 -- a call of the site leads into the copy, from a copy of the site's owner
 abbrev pub is_entered : System → ℕ → ℕ → List ℕ → Bool
-is_entered sys depth site w = ends_in w site && (nat_le (length w) depth && is_outer_copy sys depth (slice_get sys.sites site) (behind w))
+is_entered sys depth site w =
+    ends_in w site && (nat_le (length w) depth && is_outer_copy sys depth (slice_get sys.sites site) (behind w))
 
 -- the link stands in the copy with these sites, an Enter or a Leave in the copy that it enters or leaves
 abbrev pub stands : System → ℕ → Link → List ℕ → Bool

@@ -37,29 +37,36 @@ pub record IsLow (sys : System) (lattice : ℕ) (order : Order) (depth : ℕ) (m
 
 -- it rises along constraint n in copy w
 abbrev pub AgreesAt : System → ℕ → Order → ℕ → Assignment → ℕ → List ℕ → Type 0
-AgreesAt sys lattice order depth map n w = (c : Constraint) → slice_get sys.constraints n ≡ Some c → IsInLattice lattice c.link c.lattices → stands sys depth c.link w ≡ true →
+AgreesAt sys lattice order depth map n w =
+    (c : Constraint) → slice_get sys.constraints n ≡ Some c → IsInLattice lattice c.link c.lattices
+    → stands sys depth c.link w ≡ true →
     leq order (begin_element sys map c.link w) (at sys map (link_ends c.link) (end_sites c.link w)) ≡ true
 
 -- in each of the first copies
 abbrev pub AgreesUpTo : System → ℕ → Order → ℕ → Assignment → ℕ → List (List ℕ) → ℕ → Type 0
-AgreesUpTo sys lattice order depth map n strings count = (k : ℕ) (w : List ℕ) → k < count → slice_get strings k ≡ Some w → AgreesAt sys lattice order depth map n w
+AgreesUpTo sys lattice order depth map n strings count =
+    (k : ℕ) (w : List ℕ) → k < count → slice_get strings k ≡ Some w → AgreesAt sys lattice order depth map n w
 
 -- along each of the first constraints in each copy
 abbrev pub AgreesBelow : System → ℕ → Order → ℕ → Assignment → List (List ℕ) → ℕ → Type 0
-AgreesBelow sys lattice order depth map strings count = (n : ℕ) → n < count → AgreesUpTo sys lattice order depth map n strings (length strings)
+AgreesBelow sys lattice order depth map strings count =
+    (n : ℕ) → n < count → AgreesUpTo sys lattice order depth map n strings (length strings)
 
 -- the assignment keeps constraint n, if it is a bound, in copy w
 abbrev pub KeepsAt : System → ℕ → Order → ℕ → Assignment → ℕ → List ℕ → Type 0
-KeepsAt sys lattice order depth map n w = (v e : ℕ) → Stands sys lattice n (Bound v lattice e) → is_copy sys depth (owner_of sys v) w ≡ true →
+KeepsAt sys lattice order depth map n w =
+    (v e : ℕ) → Stands sys lattice n (Bound v lattice e) → is_copy sys depth (owner_of sys v) w ≡ true →
     leq order (at sys map v w) e ≡ true
 
 -- the assignment keeps constraint n, if it is a bound, in each of the first copies
 abbrev pub KeepsUpTo : System → ℕ → Order → ℕ → Assignment → ℕ → List (List ℕ) → ℕ → Type 0
-KeepsUpTo sys lattice order depth map n strings count = (k : ℕ) (w : List ℕ) → k < count → slice_get strings k ≡ Some w → KeepsAt sys lattice order depth map n w
+KeepsUpTo sys lattice order depth map n strings count =
+    (k : ℕ) (w : List ℕ) → k < count → slice_get strings k ≡ Some w → KeepsAt sys lattice order depth map n w
 
 -- it keeps each of the first constraints, if it is a bound, in each copy
 abbrev pub KeepsBelow : System → ℕ → Order → ℕ → Assignment → List (List ℕ) → ℕ → Type 0
-KeepsBelow sys lattice order depth map strings count = (n : ℕ) → n < count → KeepsUpTo sys lattice order depth map n strings (length strings)
+KeepsBelow sys lattice order depth map strings count =
+    (n : ℕ) → n < count → KeepsUpTo sys lattice order depth map n strings (length strings)
 
 -- in some copy it is not at or below some bound
 pub record IsOver (sys : System) (lattice : ℕ) (order : Order) (depth : ℕ) (map : Assignment) : Type 0 where

@@ -16,6 +16,7 @@ use Rattle.name_rules.proofs.MeaningLaws.Lists.{shared_are, place_itself, place_
 
 -- one more declaration
 
+-- a place where a thing is declared first stays one when a declaration is added
 first_more : (ds : List Declared) (d : Declared) (p : Place) → IsFirst ds p → IsFirst (ds ++ d ∷ []) p
 first_more ds d p h = record {
   it = h.it;
@@ -24,6 +25,7 @@ first_more ds d p h = record {
   is_itself = h.is_itself;
 }
 
+-- a place where an object or function of the file is declared first stays one when a declaration is added
 thing_more : (ds : List Declared) (d : Declared) (p : Place) → IsThing ds p → IsThing (ds ++ d ∷ []) p
 thing_more ds d p h = record {
   it = h.it;
@@ -36,6 +38,7 @@ thing_more ds d p h = record {
 thing_is_first : (ds : List Declared) (p : Place) → IsThing ds p → IsFirst ds p
 thing_is_first ds p h = record { it = h.it; there = h.there; is_first = h.is_first; is_itself = h.is_itself }
 
+-- a place where a member is declared stays one when a declaration is added
 member_more : (ds : List Declared) (d : Declared) (p : Place) → IsMember ds p → IsMember (ds ++ d ∷ []) p
 member_more ds d p h = record {
   it = h.it;
@@ -44,6 +47,7 @@ member_more ds d p h = record {
   is_field = h.is_field;
 }
 
+-- declarations that all have a first one do so with one more that has
 all_first_more : (ds : List Declared) (d : Declared) (xs : List Declared) → AllFirst ds xs → HasFirst (ds ++ d ∷ []) d →
     AllFirst (ds ++ d ∷ []) (xs ++ d ∷ [])
 all_first_more ds d [] h k = (k, tt)
@@ -57,6 +61,7 @@ all_first_more ds d (x ∷ xs) h k = (
   all_first_more ds d xs h.1 k,
 )
 
+-- names that mean first declarations do so with one declaration more that has a first one
 more : (s : Names) (d : Declared) → AreFirst s → HasFirst (s.declared ++ d ∷ []) d → AreFirst (with_declared d s)
 more s d h k = record {
   scopes = scopes_map (IsFirst s.declared) (IsFirst (s.declared ++ d ∷ [])) (first_more s.declared d) s.scopes h.scopes;
@@ -70,6 +75,7 @@ more s d h k = record {
       s.aggregates h.members;
 }
 
+-- names that mean first declarations do so with other scopes whose names mean such
 with_scopes : (s : Names) (scopes : List Scope) → AreFirst s → ScopesAre (IsFirst s.declared) scopes →
     AreFirst (record s { scopes = scopes })
 with_scopes s scopes h k = record {
@@ -83,6 +89,7 @@ with_scopes s scopes h k = record {
   members = h.members;
 }
 
+-- names that mean first declarations do so with other structs whose members are declared
 pub with_aggregates : (s : Names) (aggregates : List Aggregate) → AreFirst s →
     AggregatesAre (IsMember s.declared) aggregates → AreFirst (record s { aggregates = aggregates })
 with_aggregates s aggregates h k = record {
@@ -96,11 +103,13 @@ with_aggregates s aggregates h k = record {
   members = k;
 }
 
+-- names that mean first declarations do so where the innermost scope gives a name such a meaning
 with_bound : (s : Names) (name : ℕ) (m : Meaning) → AreFirst s → MeaningIs (IsFirst s.declared) m →
     AreFirst (bound name m s)
 with_bound s name m h k =
-    with_scopes s (record (innermost s.scopes) { names = (name, m) ∷ (innermost s.scopes).names } ∷ outer_scopes s.scopes)
-    h ((k, innermost_is (IsFirst s.declared) s.scopes h.scopes), outer_are (IsFirst s.declared) s.scopes h.scopes)
+    with_scopes s
+    (record (innermost s.scopes) { names = (name, m) ∷ (innermost s.scopes).names } ∷ outer_scopes s.scopes) h
+    ((k, innermost_is (IsFirst s.declared) s.scopes h.scopes), outer_are (IsFirst s.declared) s.scopes h.scopes)
 
 -- things are at places where something is declared
 not_at : (s : Names) (at p : Place) → declared_at s.declared at ≡ None → IsThing s.declared p → is_place p at ≡ false
@@ -113,6 +122,7 @@ not_at s at p none h = by (is_place p at) (place_is p at)
         absurd cc
     by false same = refl
 
+-- names that mean first declarations do so with one more thing of the file, at a place where there is none
 with_thing : (s : Names) (name : ℕ) (p : Place) → AreFirst s → IsThing s.declared p →
     ThingsAre (λ q. is_place q p ≡ false) s.things → AreFirst (record s { things = (name, p) ∷ s.things })
 with_thing s name p h k others = record {
@@ -182,6 +192,7 @@ module _ (s : Names) (at : Place) (role : Role) (t : CType) (own : Option Place)
 
 -- of what was declared first at another place
 
+-- at a place without a declaration the owner given to a declaration is that of the thing's first one
 other_owner : (s : Names) (at p : Place) (own : Option Place) → declared_at s.declared at ≡ None →
     (h : IsFirst s.declared p) → owner_where s p at own ≡ h.it.owner
 other_owner s at p own none h = by (is_place p at) (place_is p at)
@@ -193,6 +204,7 @@ other_owner s at p own none h = by (is_place p at) (place_is p at)
         absurd cc
     by false same = ap owner_of_some h.there
 
+-- names mean first declarations behind a further declaration of a thing, at a new place
 further_declared : (s : Names) (at : Place) (role : Role) (p : Place) (t : CType) (own : Option Place) →
     Differ (s.declared ++ made at role p t own s ∷ []) → IsFirst s.declared p → AreFirst s →
     AreFirst (declaring at role p t own s)
@@ -207,6 +219,7 @@ further_declared s at role p t own differ first h =
 
 -- in its scope
 
+-- names mean first declarations behind one in the innermost scope, of a thing found there or of a new one
 here_is : (s : Names) (at : Place) (name : ℕ) (role : Role) (t : CType) (own : Option Place) (inner : Option Meaning) →
     ((m : Meaning) → inner ≡ Some m → MeaningIs (IsFirst s.declared) m) →
     (role ≡ function_role → own ≡ Some at) →
@@ -223,6 +236,7 @@ here_is s at name role t own None is itself differ h =
     with_bound (declaring at role at t own s) name (means_thing at) (new_declared s at role t own differ h)
     (new_first s at role t own differ itself)
 
+-- names mean first declarations behind one in the innermost scope, at a new place
 pub is_declared_here : (at : Place) (name : ℕ) (role : Role) (t : CType) (own : Option Place) (s : Names) →
     (role ≡ function_role → own ≡ Some at) → Differ (declared_here at name role t own s).declared → AreFirst s →
     AreFirst (declared_here at name role t own s)
@@ -236,6 +250,7 @@ is_declared_here at name role t own s itself differ h =
 abbrev noted : Bool → ℕ → Place → List (ℕ × ℕ) → Names → Names
 noted is_new name at statics s = record (thing_where is_new name at s) { statics = statics }
 
+-- names mean first declarations behind one of a thing of the file, which was found or is new
 thing_is : (s : Names) (at : Place) (name : ℕ) (role : Role) (t : CType) (own : Option Place)
     (statics : List (ℕ × ℕ)) (found : Option Place) (is_new : Bool) → is_place (or_at found at) at ≡ is_new →
     ((p : Place) → found ≡ Some p → IsThing s.declared p) → (role ≡ function_role → own ≡ Some at) →
@@ -274,6 +289,7 @@ thing_of_file : (at : Place) (b : Bool) →
 thing_of_file at true = inl refl
 thing_of_file at false = inr refl
 
+-- names mean first declarations behind one of an object or function of the file, at a new place
 pub is_declared_thing : (words : List Keyword) (at : Place) (name : ℕ) (t : CType) (s : Names) →
     Differ (declared_thing words at name t s).declared → AreFirst s → AreFirst (declared_thing words at name t s)
 is_declared_thing words at name t s differ h = by (has_word keywords.Static words) differ
@@ -303,12 +319,14 @@ is_declared_thing words at name t s differ h = by (has_word keywords.Static word
     by true d = known ((at.0, name) ∷ (thing_where is_new name at s).statics) d
     by false d = known (thing_where is_new name at s).statics d
 
+-- names mean first declarations behind one of a typedef, at a new place
 is_declared_typedef : (at : Place) (name : ℕ) (t : CType) (s : Names) →
     Differ (declared_typedef at name t s).declared → AreFirst s → AreFirst (declared_typedef at name t s)
 is_declared_typedef at name t s differ h =
     with_bound (declaring at typedef_role at t None s) name (means_type t)
     (new_declared s at typedef_role t None differ h) tt
 
+-- names mean first declarations behind one that its storage words tell the kind of, at a new place
 pub is_declared_by : (words : List Keyword) (at : Place) (name : ℕ) (t : CType) (s : Names) →
     Differ (declared_by words at name t s).declared → AreFirst s → AreFirst (declared_by words at name t s)
 is_declared_by words at name t s differ h =
@@ -329,6 +347,7 @@ with_known : (s : Names) (n : ℕ) (by_typedef : Bool) (name : ℕ) → AreFirst
 with_known s n by_typedef name h =
     with_aggregates s _ h (keyed_are (IsMember s.declared) _ s.aggregates n h.members)
 
+-- names mean first declarations where a struct without a tag becomes known by its typedef
 is_typedef_known : (words : List Keyword) (name : ℕ) (untagged : Option ℕ) (s : Names) → AreFirst s →
     AreFirst (typedef_known words name untagged s)
 is_typedef_known words name None s h = h
@@ -338,6 +357,7 @@ is_typedef_known words name (Some n) s h = by (has_word keywords.Typedef words &
     by true = with_known s n true name h
     by false = h
 
+-- names mean first declarations behind a declarator, with a name or without one
 pub is_declared_some : (u : Spelling) (untagged : Option ℕ) (it : Option Named) (words : List Keyword) (t : CType)
     (s : Names) → Differ (declared_some u untagged it words t s).declared → AreFirst s →
     AreFirst (declared_some u untagged it words t s)
@@ -350,6 +370,7 @@ is_declared_some u untagged (Some it) words t s differ h =
     next : Names
     next = declared_by words (place u it.token) (u.key it.name) t (sized (place u it.token) t s)
 
+-- names mean first declarations behind a parameter, with a name or without one
 pub is_declared_param : (u : Spelling) (it : Option Named) (i : ℕ) (own : Option Place) (t : CType) (s : Names) →
     Differ (declared_param u it i own t s).declared → AreFirst s → AreFirst (declared_param u it i own t s)
 is_declared_param u None i own t s differ h = h
@@ -359,6 +380,7 @@ is_declared_param u (Some it) i own t s differ h =
 
 -- members
 
+-- names mean first declarations behind a member at a new place, which its struct has from then on
 member_at : (s : Names) (at : Place) (name n i : ℕ) (t : CType) →
     Differ (s.declared ++ made at (field_role n i) at t None s ∷ []) → AreFirst s →
     AreFirst (with_body n (with_member name at t) (declaring at (field_role n i) at t None s))
@@ -381,12 +403,14 @@ member_at s at name n i t differ h =
     member : IsMember (s.declared ++ made at role at t None s ∷ []) at
     member = new_member s at role t None differ refl n i refl
 
+-- names mean first declarations behind a member, with a name or without one
 pub is_declared_member : (u : Spelling) (it : Option Named) (n : ℕ) (t : CType) (s : Names) →
     Differ (declared_member u it n t s).declared → AreFirst s → AreFirst (declared_member u it n t s)
 is_declared_member u None n t s differ h = h
 is_declared_member u (Some it) n t s differ h =
     member_at s (place u it.token) (u.key it.name) n (length (or_no_body (body_of s.aggregates n)).own) t differ h
 
+-- names mean first declarations behind an unnamed member, with the members that lie in it
 pub is_unnamed_member : (at : Place) (n : ℕ) (t : CType) (s : Names) → Differ (unnamed_member at n t s).declared →
     AreFirst s → AreFirst (unnamed_member at n t s)
 is_unnamed_member at n t s differ h =
@@ -413,11 +437,13 @@ is_unnamed_member at n t s differ h =
 
 -- tags
 
+-- names mean first declarations with one struct more, which has no body
 with_one_more : (kind : TagKind) (at : Place) (s : Names) → AreFirst s → AreFirst (with_aggregate kind at s)
 with_one_more kind at s h =
     with_aggregates s _ h (aggregates_more (IsMember s.declared) s.aggregates
     (record { kind = kind; at = at; body = None; key = None }) h.members tt)
 
+-- names mean first declarations where the innermost scope gets a tag
 with_tag_bound : (kind : TagKind) (tag n : ℕ) (s : Names) → AreFirst s → AreFirst (tag_bound kind tag n s)
 with_tag_bound kind tag n s h =
     with_scopes s _ h (
@@ -425,6 +451,7 @@ with_tag_bound kind tag n s h =
       outer_are (IsFirst s.declared) s.scopes h.scopes,
     )
 
+-- names mean first declarations behind a tag that was found, or is new in the innermost scope
 found_tag : (found : Option ℕ) (u : Spelling) (kind : TagKind) (token tag : ℕ) (s : Names) → AreFirst s →
     AreFirst (found_or_new found u kind token tag s).names
 found_tag (Some n) u kind token tag s h = h
@@ -432,16 +459,18 @@ found_tag None u kind token tag s h =
     with_tag_bound kind (u.key tag) (length s.aggregates) (with_aggregate kind (place u token) s)
     (with_one_more kind (place u token) s h)
 
+-- names mean first declarations behind a use of a tag without a body
 pub is_tag_used : (u : Spelling) (alone : Bool) (kind : TagKind) (token tag : ℕ) (s : Names) → AreFirst s →
     AreFirst (tag_used u alone kind token tag s).names
 is_tag_used u alone kind token tag s h =
-    found_tag (if alone then tag_in (innermost s.scopes).tags kind (u.key tag) else tag_through s.scopes kind (u.key tag))
-    u kind token tag s h
+    found_tag (if alone then tag_in (innermost s.scopes).tags kind (u.key tag)
+    else tag_through s.scopes kind (u.key tag)) u kind token tag s h
 
 is_opened : (n : ℕ) (s : Names) → AreFirst s → AreFirst (opened n s)
 is_opened n s h =
     with_aggregates s _ h (changed_are (IsMember s.declared) (λ body. body) (λ body k. k) s.aggregates n h.members)
 
+-- names mean first declarations where a struct of the file becomes known by its tag
 is_tag_known : (tag : Option ℕ) (n : ℕ) (s : Names) → AreFirst s → AreFirst (tag_known tag n s)
 is_tag_known None n s h = h
 is_tag_known (Some tag) n s h = by (is_at_file s)
@@ -450,6 +479,7 @@ is_tag_known (Some tag) n s h = by (is_at_file s)
     by true = with_known s n false tag h
     by false = h
 
+-- names mean first declarations where a body begins, in the struct found or, where that has one, a new one
 is_begun_in : (b : Bool) (at : Place) (kind : TagKind) (tag : Option ℕ) (it : Numbered) → AreFirst it.names →
     AreFirst (begun_in b at kind tag it).names
 is_begun_in true at kind tag it h =
@@ -457,6 +487,7 @@ is_begun_in true at kind tag it h =
 is_begun_in false at kind tag it h =
     is_tag_known tag it.number (opened it.number it.names) (is_opened it.number it.names h)
 
+-- names mean first declarations where the body of a tag begins
 pub is_tag_begun : (u : Spelling) (kind : TagKind) (token tag : ℕ) (s : Names) → AreFirst s →
     AreFirst (tag_begun u kind token tag s).names
 is_tag_begun u kind token tag s h =
@@ -464,6 +495,7 @@ is_tag_begun u kind token tag s h =
     (tag_used u true kind token tag s).number)) (place u token) kind (Some (u.key tag))
     (tag_used u true kind token tag s) (is_tag_used u true kind token tag s h)
 
+-- names mean first declarations where a body without a tag begins
 pub is_untagged_begun : (at : Place) (kind : TagKind) (s : Names) → AreFirst s →
     AreFirst (untagged_begun at kind s).names
 is_untagged_begun at kind s h =
@@ -472,6 +504,7 @@ is_untagged_begun at kind s h =
 
 -- uses and scopes
 
+-- a use by a meaning that is a first declaration stands for one, or for nothing
 use_is : (s : Names) (found : Option Meaning) (c : Bool) → ((m : Meaning) → found ≡ Some m →
     MeaningIs (IsFirst s.declared) m) → UseIs (IsFirst s.declared) (use_by found c)
 use_is s None true h = tt
@@ -479,6 +512,7 @@ use_is s None false h = tt
 use_is s (Some (means_thing at)) c h = h (means_thing at) refl
 use_is s (Some (means_type t)) c h = tt
 
+-- names mean first declarations behind a use of a name
 pub is_used : (u : Spelling) (c : Bool) (token name : ℕ) (s : Names) → AreFirst s → AreFirst (used u c token name s)
 is_used u c token name s h = record {
   scopes = h.scopes;
@@ -500,6 +534,7 @@ is_entered s h = with_scopes s (no_scope ∷ s.scopes) h (tt, h.scopes)
 pub is_left : (s : Names) → AreFirst s → AreFirst (leave s)
 is_left s h = with_scopes s (outer_scopes s.scopes) h (outer_are (IsFirst s.declared) s.scopes h.scopes)
 
+-- names mean first declarations where a parameter scope ends, kept for the function's body or let go
 pub is_kept : (own : Option Place) (s : Names) → AreFirst s → AreFirst (keep own s)
 is_kept None s h = is_left s h
 is_kept (Some own) s h = record {
@@ -518,6 +553,7 @@ kept_are : (P : Place → Type 0) (kept : Option Scope) (scopes : List Scope) �
 kept_are P None scopes h k = k
 kept_are P (Some scope) scopes h k = (h, k)
 
+-- names mean first declarations where the body of a function begins, with the scope kept for it
 is_body_begun : (first : Place) (s : Names) → AreFirst s → AreFirst (body_begun first s)
 is_body_begun first s h = record {
   scopes = kept_are (IsFirst s.declared) s.kept s.scopes h.kept h.scopes;
@@ -540,6 +576,7 @@ is_body_left s h = is_left s h
 
 -- units
 
+-- names mean first declarations where a unit begins
 pub is_unit_begun : (unit : ℕ) (s : Names) → AreFirst s → AreFirst (unit_begun unit s)
 is_unit_begun unit s h = record {
   scopes = (tt, tt);
@@ -557,6 +594,7 @@ is_unit_begun unit s h = record {
         (innermost_is (IsFirst s.declared) s.scopes h.scopes)
     by false = h.round
 
+-- where there are no names, all that they mean is declared first
 pub no_names_are : AreFirst no_names
 no_names_are = record {
   scopes = (tt, tt);

@@ -36,6 +36,7 @@ pub record Grown (old new : List Declared) : Type 0 where
 pub same : (old new : List Declared) → new ≡ old → Grown old new
 same old new e = record { added = []; is = e ∙ sym (append-nil old) }
 
+-- declarations that grew from some that grew from others grew from those
 pub then_grown : (a b c : List Declared) → Grown a b → Grown b c → Grown a c
 then_grown a b c g h = record {
   added = g.added ++ h.added;
@@ -47,6 +48,7 @@ abbrev pub Adds : Spelling → Option Named → List Declared → List Declared 
 Adds u None old new = new ≡ old
 Adds u (Some it) old new = (d : Declared) × (d.at ≡ place u it.token) × (new ≡ old ++ d ∷ [])
 
+-- a struct that becomes known by its typedef leaves the declarations as they are
 pub known_same : (words : List Keyword) (name : ℕ) (untagged : Option ℕ) (s : Names) →
     (typedef_known words name untagged s).declared ≡ s.declared
 known_same words name None s = refl
@@ -56,6 +58,7 @@ known_same words name (Some n) s = by (has_word keywords.Typedef words && is_at_
     by true = refl
     by false = refl
 
+-- a thing and a `static` that are noted leave the declarations as they are
 thing_same : (b c : Bool) (unit name : ℕ) (at : Place) (s : Names) →
     (static_where b unit name (thing_where c name at s)).declared ≡ s.declared
 thing_same true true unit name at s = refl
@@ -63,7 +66,9 @@ thing_same true false unit name at s = refl
 thing_same false true unit name at s = refl
 thing_same false false unit name at s = refl
 
-pub adds_some : (u : Spelling) (untagged : Option ℕ) (it : Option Named) (words : List Keyword) (t : CType) (s : Names) →
+-- a declarator adds one declaration at its name, or none where it has no name
+pub adds_some : (u : Spelling) (untagged : Option ℕ) (it : Option Named) (words : List Keyword)
+    (t : CType) (s : Names) →
     Adds u it s.declared (declared_some u untagged it words t s).declared
 adds_some u untagged None words t s = refl
 adds_some u untagged (Some it) words t s =
@@ -95,7 +100,8 @@ adds_some u untagged (Some it) words t s =
       role = if is_function t then function_role else object_role;
       first = first;
       type = t;
-      owner = owner_where (static_where is_static at.0 (u.key it.name) (thing_where is_new (u.key it.name) at old)) first at
+      owner =
+          owner_where (static_where is_static at.0 (u.key it.name) (thing_where is_new (u.key it.name) at old)) first at
           (if is_function t then Some at else None);
     }
 
@@ -129,12 +135,14 @@ tag_same : (found : Option ℕ) (u : Spelling) (kind : TagKind) (token tag : ℕ
 tag_same (Some n) u kind token tag s = refl
 tag_same None u kind token tag s = refl
 
+-- a use of a tag leaves the declarations as they are
 pub used_same : (u : Spelling) (alone : Bool) (kind : TagKind) (token tag : ℕ) (s : Names) →
     (tag_used u alone kind token tag s).names.declared ≡ s.declared
 used_same u alone kind token tag s =
-    tag_same (if alone then tag_in (innermost s.scopes).tags kind (u.key tag) else tag_through s.scopes kind (u.key tag))
-    u kind token tag s
+    tag_same (if alone then tag_in (innermost s.scopes).tags kind (u.key tag)
+    else tag_through s.scopes kind (u.key tag)) u kind token tag s
 
+-- a struct that becomes known by its tag leaves the declarations as they are
 tag_known_same : (tag : Option ℕ) (n : ℕ) (s : Names) → (tag_known tag n s).declared ≡ s.declared
 tag_known_same None n s = refl
 tag_known_same (Some tag) n s = by (is_at_file s)
@@ -152,6 +160,7 @@ pub keep_same : (own : Option Place) (s : Names) → (keep own s).declared ≡ s
 keep_same None s = refl
 keep_same (Some own) s = refl
 
+-- a body that a function enters leaves the declarations as they are
 pub entered_same : (plain counted : Bool) (d : Option Declared) (s : Names) →
     (body_entered_by plain counted d s).declared ≡ s.declared
 entered_same plain counted None s = refl
@@ -160,11 +169,13 @@ entered_same plain false (Some d) s = refl
 
 -- lists of identifiers
 
+-- the faults of identifiers without declarations leave the declarations as they are
 pub old_faults_same : (u : Spelling) (its : List OldParameter) (s : Names) → (old_faults u its s).declared ≡ s.declared
 old_faults_same u [] s = refl
 old_faults_same u (it ∷ others) s =
     old_faults_same u others (with_faults (fault_where (is_unknown it.type) (place u it.token) undeclared) s)
 
+-- the declarations grow, or stay, where a parameter is declared behind a list of identifiers
 old_declared_grown : (u : Spelling) (own : Option Place) (it : Named) (t : CType) (i : Option ℕ) (its : Olds) →
     Grown its.names.declared (old_declared u own it t i its).names.declared
 old_declared_grown u own it t None its = same _ _ refl
@@ -238,7 +249,8 @@ module _ (u : Spelling) where
       by : (b : Bool)
           → Grown st.names.declared (if b then name_declared u st else name_ended (with_olds its st)).names.declared
       by true = name_grown st
-      by false = old_some_grown u (parameters st).own (declaration st).name (decayed (declaration st).declared) (olds st)
+      by false =
+          old_some_grown u (parameters st).own (declaration st).name (decayed (declaration st).declared) (olds st)
 
   declr_grown : (st : State) (op : DeclrOp) → Grown st.names.declared (declarator_step u st op).names.declared
   declr_grown st declrs.Param =
@@ -256,7 +268,8 @@ module _ (u : Spelling) where
   declr_grown st op = same _ _ refl
 
   stmt_grown : (st : State) (op : StmtOp) → Grown st.names.declared (statement_step u st op).names.declared
-  stmt_grown st stmts.FunctionBody = same _ _ (entered_same (is_plain st) (is_counted u st) (last_or None st.names.declared) st.names)
+  stmt_grown st stmts.FunctionBody =
+      same _ _ (entered_same (is_plain st) (is_counted u st) (last_or None st.names.declared) st.names)
   stmt_grown st op = same _ _ refl
 
   pub expr_same : (st : State) (op : ExprOp) → (expression_step u st op).names.declared ≡ st.names.declared
@@ -280,6 +293,7 @@ module _ (u : Spelling) where
       then_grown st.names.declared (step u st op).names.declared (run u tape (step u st op)).names.declared
       (step_grown st op) (run_grown tape (step u st op))
 
+-- the declarations grow along tapes
 pub tapes_grown : (tapes : List Tape) (s : Names) → Grown s.declared (tapes_named tapes s).declared
 tapes_grown [] s = same _ _ refl
 tapes_grown (it ∷ tapes) s =

@@ -22,6 +22,7 @@ abbrev HasThing : List (ℕ × Place) → ℕ → Place → Type 0
 HasThing [] name p = ⊥
 HasThing (it ∷ things) name p = ((it.0 ≡ name) × (it.1 ≡ p)) ⊎ HasThing things name p
 
+-- what holds of the places of all things holds of the place of one that has a name
 thing_there : (P : Place → Type 0) (things : List (ℕ × Place)) (name : ℕ) (p : Place) → ThingsAre P things →
     HasThing things name p → P p
 thing_there P [] name p h k = absurd k
@@ -92,7 +93,8 @@ module _ (statics : List (ℕ × ℕ)) where
         other = other_way p it.1 (thing_there (λ r. is_place r it.1 ≡ false) things name p d.0 h)
 
         none : thing_linked statics all p it ≡ None
-        none = ap (λ (b : Bool). if b && is_external statics it.0 it.1 then first_external statics all it.0 else None) other
+        none = ap
+            (λ (b : Bool). if b && is_external statics it.0 it.1 then first_external statics all it.0 else None) other
 
 -- members
 
@@ -118,7 +120,8 @@ module _ (P : Place → Type 0) where
       name_found body known p ≡ Some name → P p
   name_is body [] p name h e = absurd cc
   name_is body (it ∷ known) p name h e =
-      by (is_place it.at p && is_found p (place_of (member_in (Some body) it.name))) refl e (name_is body known p name h.1)
+      by (is_place it.at p && is_found p (place_of (member_in (Some body) it.name))) refl e
+      (name_is body known p name h.1)
     where
       by : (b : Bool) → (is_place it.at p && is_found p (place_of (member_in (Some body) it.name))) ≡ b →
           (if b then Some it.name else name_found body known p) ≡ Some name →

@@ -12,6 +12,7 @@ use Rattle.name_rules.specs.MeaningLaws.Meanings.{Differ, MeaningIs, NamesAre, S
 pub place_itself : (p : Place) → is_place p p ≡ true
 place_itself p = rw (eq-eqb p.0 p.0 refl, eq-eqb p.1 p.1 refl) refl
 
+-- places that pass the test for being the same are equal
 pub place_is : (p q : Place) → is_place p q ≡ true → p ≡ q
 place_is p q e =
     let both = and_parts (nat_eq p.0 q.0) (nat_eq p.1 q.1) e in
@@ -20,6 +21,7 @@ place_is p q e =
     pair : ℕ → ℕ → Place
     pair m n = (m, n)
 
+-- the declaration that is found at a place is at that place
 pub declared_place : (ds : List Declared) (p : Place) (d : Declared) → declared_at ds p ≡ Some d → d.at ≡ p
 declared_place [] p d e = absurd cc
 declared_place (other ∷ ds) p d e = by (is_place other.at p) (place_is other.at p) e (declared_place ds p d)
@@ -29,6 +31,7 @@ declared_place (other ∷ ds) p d e = by (is_place other.at p) (place_is other.a
     by true is e more = let same : other ≡ d = cc in subst (λ (it : Declared). it.at ≡ p) same (is refl)
     by false is e more = more e
 
+-- a declaration that is found at a place is still found there when others are added behind
 pub at_more : (ds more : List Declared) (p : Place) (it : Declared) → declared_at ds p ≡ Some it →
     declared_at (ds ++ more) p ≡ Some it
 at_more [] more p it e = absurd cc
@@ -40,6 +43,7 @@ at_more (d ∷ ds) more p it e = by (is_place d.at p) e (at_more ds more p it)
     by true e next = e
     by false e next = next e
 
+-- a declaration added at a place where there was none is found there
 pub at_new : (ds : List Declared) (d : Declared) → declared_at ds d.at ≡ None → declared_at (ds ++ d ∷ []) d.at ≡ Some d
 at_new [] d e = ap (λ (b : Bool). if b then Some d else None) (place_itself d.at)
 at_new (other ∷ ds) d e = by (is_place other.at d.at) e (at_new ds d)
@@ -50,6 +54,7 @@ at_new (other ∷ ds) d e = by (is_place other.at d.at) e (at_new ds d)
     by true e next = absurd cc
     by false e next = next e
 
+-- a place where nothing of two lists is declared has nothing in the first
 none_left : (xs ys : List Declared) (p : Place) → declared_at (xs ++ ys) p ≡ None → declared_at xs p ≡ None
 none_left [] ys p e = refl
 none_left (x ∷ xs) ys p e = by (is_place x.at p) e (none_left xs ys p)
@@ -59,6 +64,7 @@ none_left (x ∷ xs) ys p e = by (is_place x.at p) e (none_left xs ys p)
     by true e next = absurd cc
     by false e next = next e
 
+-- a place where nothing is declared is not that of the last declaration
 none_last : (xs : List Declared) (d : Declared) (p : Place) → declared_at (xs ++ d ∷ []) p ≡ None →
     is_place d.at p ≡ false
 none_last [] d p e = by (is_place d.at p) e
@@ -77,6 +83,7 @@ pub differ_before : (xs ys : List Declared) → Differ (xs ++ ys) → Differ xs
 differ_before [] ys h = tt
 differ_before (x ∷ xs) ys h = (none_left xs ys x.at h.0, differ_before xs ys h.1)
 
+-- two places that differ do so in either order
 pub other_way : (p q : Place) → is_place p q ≡ false → is_place q p ≡ false
 other_way p q e = by (is_place q p) (place_is q p)
   where

@@ -82,7 +82,8 @@ module _ (u : Spelling) where
       Differ (old_declared_some u own it t its).names.declared → AreFirst its.names →
       AreFirst (old_declared_some u own it t its).names
   old_some_first own None t its d h = h
-  old_some_first own (Some it) t its d h = old_declared_first own it t (number_of_identifier (u.key it.name) its.list) its d h
+  old_some_first own (Some it) t its d h =
+      old_declared_first own it t (number_of_identifier (u.key it.name) its.list) its d h
 
   old_first : (st : State) → Differ (with_old_parameter u st).names.declared → AreFirst st.names →
       AreFirst (with_old_parameter u st).names
@@ -94,7 +95,8 @@ module _ (u : Spelling) where
       by : (b : Bool) → Differ (if b then name_declared u st else name_ended (with_olds its st)).names.declared →
           AreFirst (if b then name_declared u st else name_ended (with_olds its st)).names
       by true d = name_first st d h
-      by false d = old_some_first (parameters st).own (declaration st).name (decayed (declaration st).declared) (olds st) d h
+      by false d =
+          old_some_first (parameters st).own (declaration st).name (decayed (declaration st).declared) (olds st) d h
 
   declr_first : (st : State) (op : DeclrOp) → Differ (declarator_step u st op).names.declared → AreFirst st.names →
       AreFirst (declarator_step u st op).names
@@ -120,7 +122,8 @@ module _ (u : Spelling) where
   stmt_first : (st : State) (op : StmtOp) → AreFirst st.names → AreFirst (statement_step u st op).names
   stmt_first st stmts.Enter h = is_entered st.names h
   stmt_first st stmts.Leave h = is_left st.names h
-  stmt_first st stmts.FunctionBody h = entered_first (is_plain st) (is_counted u st) (last_or None st.names.declared) st.names h
+  stmt_first st stmts.FunctionBody h =
+      entered_first (is_plain st) (is_counted u st) (last_or None st.names.declared) st.names h
   stmt_first st stmts.FunctionEnd h = is_body_left st.names h
   stmt_first st op h = h
 
@@ -144,16 +147,19 @@ module _ (u : Spelling) where
       (differ_old (step u st op).names.declared (run u tape (step u st op)).names.declared
       (run_grown u tape (step u st op)) d) h)
 
+-- names that mean first declarations do so behind tapes, where no two declarations are at one place
 tapes_first : (tapes : List Tape) (s : Names) → Differ (tapes_named tapes s).declared → AreFirst s →
     AreFirst (tapes_named tapes s)
 tapes_first [] s d h = h
 tapes_first (it ∷ tapes) s d h =
     tapes_first tapes next d (run_first it.spelling it.ops (with_names (unit_begun it.spelling.unit s))
-    (differ_old next.declared (tapes_named tapes next).declared (tapes_grown tapes next) d) (is_unit_begun it.spelling.unit s h))
+    (differ_old next.declared (tapes_named tapes next).declared (tapes_grown tapes next) d)
+    (is_unit_begun it.spelling.unit s h))
   where
     next : Names
     next = tape_named it (unit_begun it.spelling.unit s)
 
+-- a declaration that is found among those that all have a first one has one
 first_found : (all ds : List Declared) (p : Place) (d : Declared) → AllFirst all ds → declared_at ds p ≡ Some d →
     HasFirst all d
 first_found all [] p d h e = absurd cc
@@ -167,6 +173,7 @@ first_found all (x ∷ ds) p d h e = by (is_place x.at p) e (first_found all ds 
 nobodys : (ds : List Declared) (p : Place) → IsMember ds p → IsNobodys ds p
 nobodys ds p h = record { it = h.it; there = h.there; none = h.none }
 
+-- where names mean first declarations, so do uses; members are nobody's, and what is linked is declared
 known : (s : Names) → AreFirst s → NamesAreFirst s
 known s h = record {
   uses = λ p q e. use_found (IsFirst s.declared) s.uses p q h.uses e;

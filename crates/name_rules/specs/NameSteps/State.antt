@@ -9,8 +9,7 @@ use Rattle.name_rules.specs.Scopes.{Names}
 use Rattle.name_rules.specs.Identifiers.{OldParameter}
 
 -- specifiers: their type without annotation words, these words, the storage words and `inline`, and whether a struct or
--- union
--- without a tag is one of them, so far
+-- union without a tag is one of them, so far
 pub record Specifiers : Type 0 where
   pub type : CType
   pub words : Words
@@ -24,9 +23,8 @@ pub record OpenBody : Type 0 where
   pub members_of : ℕ
 
 -- a declaration whose specifiers are whole: their type and storage words, and until a name was declared whether a
--- struct or union
--- without a tag is one of them; and of the declarator that is being read the name, where it has one, and the type so
--- far
+-- struct or union without a tag is one of them; and of the declarator that is being read the name, where it has one,
+-- and the type so far
 pub record OpenDeclaration : Type 0 where
   pub type : CType
   pub storage : List Keyword
@@ -35,16 +33,14 @@ pub record OpenDeclaration : Type 0 where
   pub declared : CType
 
 -- a list of parameters: the function whose own they are, where they are a function's own, and their types so far; where
--- it is a list
--- of identifiers, these
+-- it is a list of identifiers, these
 pub record OpenParameters : Type 0 where
   pub own : Option Place
   pub types : List CType
   pub identifiers : List OldParameter
 
 -- a type by what stands in parentheses, or the initialiser that gives its type to a name: the specifiers outside, and
--- how many ops are
--- before it
+-- how many ops are before it
 pub record OpenPart : Type 0 where
   pub outer : Specifiers
   pub from : ℕ

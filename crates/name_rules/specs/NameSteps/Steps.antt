@@ -112,8 +112,7 @@ abbrev pub with_unnamed_member : Place → State → State
 with_unnamed_member at st = record st { names = unnamed_member at (body st).members_of (declaration st).type st.names }
 
 -- Types by expressions: the ops since one began are gone through once more, with the names that are known at its end
--- and nothing on
--- the stacks, and leave the shape of the expression.
+-- and nothing on the stacks, and leave the shape of the expression.
 
 -- a part begins; the op that it begins with is the first of its own
 abbrev pub part_begun : State → State
@@ -221,7 +220,8 @@ linked_some u (Some it) s = Some (linked (u.key it.name) (place u it.token) s)
 -- a list of parameters begins, with a scope of its own (6.2.1)
 abbrev pub parameters_begun : Option Place → State → State
 parameters_begun own st =
-    record st { names = enter st.names; parameters = record { own = own; types = []; identifiers = [] } ∷ st.parameters }
+    record st
+    { names = enter st.names; parameters = record { own = own; types = []; identifiers = [] } ∷ st.parameters }
 
 -- a declaration ends
 abbrev pub let_go : State → State
@@ -278,7 +278,8 @@ abbrev pub name_ended : State → State
 name_ended st =
     record st {
       declarations = with_innermost
-          (record (declaration st) { is_untagged = false; name = None; declared = (declaration st).type }) st.declarations;
+          (record (declaration st) { is_untagged = false; name = None; declared = (declaration st).type })
+          st.declarations;
     }
 
 -- the declarator of the innermost declaration declares its name

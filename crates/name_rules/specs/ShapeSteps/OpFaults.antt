@@ -32,7 +32,8 @@ expr_op_faults u s st (exprs.Binary sign token first last) = []
 expr_op_faults u s st (exprs.Prefix sign token last aims) = prefix_faults (place u token) sign (shape_at 0 st)
 expr_op_faults u s st (exprs.Post sign token first) =
     fault_where (not (shape_at 0 st).is_place) (place u token) not_place
-expr_op_faults u s st (exprs.Index token first last aims) = index_faults_at u.wide (place u token) (shape_at 1 st) (shape_at 0 st)
+expr_op_faults u s st (exprs.Index token first last aims) =
+    index_faults_at u.wide (place u token) (shape_at 1 st) (shape_at 0 st)
 expr_op_faults u s st (exprs.Arg behind first last) = []
 expr_op_faults u s st (exprs.Call token count) = call_faults (place u token) (value_at count st) count
 expr_op_faults u s st (exprs.Arrow token first last aims) =

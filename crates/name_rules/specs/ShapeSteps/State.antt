@@ -17,13 +17,11 @@ pub data Braces : Type 0 where
   -- a list that initialises nothing
   untargeted : Braces
   -- a list that initialises something of this type: whether its next item is the first, the number of the next member,
-  -- and
-  -- what the designators of the next item name so far, where it has some
+  -- and what the designators of the next item name so far, where it has some
   listed : Option CType → Bool → ℕ → Option (Option CType) → Braces
 
 -- a declaration, by the tokens of two names, where there are any: that of the declarator that is read, and the one that
--- was
--- declared last
+-- was declared last
 pub record OpenDeclaration : Type 0 where
   pub name : Option ℕ
   pub declared : Option ℕ

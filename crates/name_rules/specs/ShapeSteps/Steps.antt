@@ -1,8 +1,7 @@
 -- What each op of a tape does to the stacks: a line an op.
 --
 -- The operands of an initialiser in braces stay on the stack until it ends. What its list says of types is judged when
--- the
--- list is gone through once more.
+-- the list is gone through once more.
 use Rattle.std.specs.Prelude.{ℕ, zero, suc, ◌+◌, true, false, ◌&&◌, List, [], ◌∷◌, length, drop, Option, None, Some, if◌then◌else◌}
 use Rattle.tape_ops.specs.declared.op.Op.{Op}
 use Rattle.tape_ops.specs.declared.op.Op.TheVariants as ops
@@ -143,7 +142,8 @@ chosen st = candidate_at 1 st ∷ candidate_at 0 st ∷ []
 -- the associations of a selection, the last of which is on top: of each its type and its expression
 abbrev pub associations : ℕ → State → List Association
 associations zero st = []
-associations (suc n) st = record { type = type_at (suc (twice n)) st; candidate = candidate_at (twice n) st } ∷ associations n st
+associations (suc n) st =
+    record { type = type_at (suc (twice n)) st; candidate = candidate_at (twice n) st } ∷ associations n st
 
 -- what an op of the forms with type names does to the stacks
 abbrev pub form_step : Spelling → Names → State → FormOp → State

@@ -32,9 +32,11 @@ pub name_stays : (table : NameTable) (name : ℕ) (v : Place) → is_some (name_
 name_stays table name v known n = elim (eqb_tells name n) [
   | inl same ↦ known_stays (name_there table n) (first_by name v n)
       (ap (λ (k : ℕ). is_some (name_there table k)) (sym same.1) ∙ known)
-  | inr other ↦ sym (ap (λ b. or_else (name_there table n) (if b then Some v else None)) other.0 ∙ adding.or_none (name_there table n))
+  | inr other ↦ sym (ap (λ b. or_else (name_there table n) (if b then Some v else None)) other.0
+      ∙ adding.or_none (name_there table n))
 ]
 
+-- a name without a place in a table gets one, and every name then has its old place or else this one
 pub name_comes : (table : NameTable) (name : ℕ) (v : Place) (after : NameTable)
     → is_some (name_there table name) ≡ false
     → ((n : ℕ) → name_there after n ≡ (if nat_eq name n then Some v else name_there table n)) → (n : ℕ)
@@ -44,5 +46,6 @@ name_comes table name v after unknown set n = elim (eqb_tells name n) [
       ∙ none_gets (name_there table n) (Some v) (ap (λ (k : ℕ). is_some (name_there table k)) (sym same.1) ∙ unknown)
       ∙ ap (λ b. or_else (name_there table n) (if b then Some v else None)) (sym same.0)
   | inr other ↦ set n ∙ ap (λ b. if b then Some v else name_there table n) other.0
-      ∙ sym (ap (λ b. or_else (name_there table n) (if b then Some v else None)) other.0 ∙ adding.or_none (name_there table n))
+      ∙ sym (ap (λ b. or_else (name_there table n) (if b then Some v else None)) other.0
+      ∙ adding.or_none (name_there table n))
 ]

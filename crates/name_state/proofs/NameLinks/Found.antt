@@ -2,25 +2,28 @@
 use Rattle.std.proofs.Common.{◌≡◌, ℕ, zero, suc, ◌+◌, ◌<◌, arith, Bool, true, false, not, ◌&&◌, nat_eq, List, [], ◌∷◌, map, slice_get, Option, Some, None, is_some, option_map, refl, sym, ◌∙◌, ap, if◌then◌else◌}
 use Rattle.std.specs.Prelude.{option_and_then}
 use Rattle.std.proofs.lemmas.Bool.{eq-eqb}
+use Rattle.std.proofs.lemmas.Option.{same_Some}
+use Rattle.qual_base.proofs.Tests.{and_false, not_equal}
 use Rattle.type_table.specs.Types.{CType}
 use Rattle.name_rules.specs.Spellings.{Place}
 use Rattle.name_rules.specs.Scopes.{is_place, or_place}
 use Rattle.name_rules.specs.Scopes as rules
 use Rattle.name_rules.specs.Values.{known_named, member_in}
 use Rattle.name_rules.specs.Linking.{defines, is_elsewhere, place_of, member_where, member_among, is_found, name_found, linked_in, member_link}
+use Rattle.name_rules.proofs.MeaningLaws.Lists.{place_is}
 use Rattle.name_tables.specs.declared.name_records.body.Known.{Known}
 use Rattle.name_tables.specs.declared.name_records.aggregates.StructKey.{StructKey}
 use Rattle.name_tables.specs.declared.name_records.aggregates.Aggregate.{Aggregate}
 use Rattle.name_tables.specs.NameRecords.Bodies.{OneBody}
 use Rattle.name_tables.specs.PlaceMap.Values.{or_else}
-use Rattle.name_tables.proofs.PlaceMap.Adding.{same_place, or_none}
+use Rattle.name_tables.proofs.PlaceMap.Adding.{or_none}
 use Rattle.name_state.specs.UnitNames.Shown.{key_of, known_of, body_of, aggregate_of}
 use Rattle.name_state.specs.declared.name_links.keys.Shared.{Shared}
 use Rattle.name_state.specs.declared.name_links.keys.Keys.{Keys}
 use Rattle.name_state.specs.NameLinks.Tables.{keyed, key_held, is_keyed_by, AreKeyed, if_elsewhere, keyed_by, shared_by, PlaceTable, member_there, known_in, first_known, own_members, key_members, first_own, first_among, link_where, link_there, first_link, shared_links, all_links, known_behind}
-use Rattle.name_state.proofs.NameLinks.Tests.{and_false, not_same, key_same, key_is}
+use Rattle.name_state.proofs.NameLinks.Tests.{key_same, key_is}
 use Rattle.name_state.proofs.NameLinks.Things.{first_place}
-use Rattle.name_state.proofs.NameLinks.Known.{some_is, held_is, one_key, known_here}
+use Rattle.name_state.proofs.NameLinks.Known.{held_is, one_key, known_here}
 
 some_first : (o e : Option Place) → is_some o ≡ true → is_some (or_place o e) ≡ true
 some_first None e is = absurd cc
@@ -71,7 +74,8 @@ module _ (t : ℕ → CType) where
       of_list : (ks : List Known) → first_known m ks (m, name) ≡ place_of (known_named (map (known_of t) ks) name)
       of_list [] = refl
       of_list (k ∷ ks) =
-          ap (λ b. or_else (if b && nat_eq k.name name then Some k.at else None) (first_known m ks (m, name))) (eq-eqb m m refl)
+          ap (λ b. or_else (if b && nat_eq k.name name then Some k.at else None) (first_known m ks (m, name)))
+          (eq-eqb m m refl)
           ∙ by_test k ks (nat_eq k.name name) (of_list ks)
 
   -- the first of the members of a key that have a name
@@ -85,7 +89,7 @@ module _ (t : ℕ → CType) where
   among_some key it name holds found [] i at = absurd cc
   among_some key it name holds found (x ∷ all) zero at =
       ap (λ (y : Aggregate). is_some (or_place (member_where (defines key (aggregate_of t y)) (aggregate_of t y) name)
-      (among key all name))) (some_is x it at)
+      (among key all name))) (same_Some x it at)
       ∙ ap (λ b. is_some (or_place (member_where b (aggregate_of t it) name) (among key all name))) holds
       ∙ some_first (found_in it.body name) (among key all name) found
   among_some key it name holds found (x ∷ all) (suc i) at =
@@ -98,7 +102,7 @@ module _ (t : ℕ → CType) where
     past m k [] name lt = refl
     past m k (it ∷ some) name lt =
         ap (λ o. or_else o (first_own keys (suc m) some (k, name)))
-        (own_other (shared_by keys it) m k (known_in it.body) name (not_same m k (λ same. omega arith)))
+        (own_other (shared_by keys it) m k (known_in it.body) name (not_equal m k (λ same. omega arith)))
         ∙ past (suc m) k some name (omega arith)
 
     pub own_here : (m n k : ℕ) (some : List Aggregate) (it : Aggregate) (name : ℕ) → k ≡ m + n
@@ -111,19 +115,21 @@ module _ (t : ℕ → CType) where
         (past (suc m) k some name (omega arith))
         ∙ or_none (own_members (shared_by keys x) m (known_in x.body) (k, name))
         ∙ ap (λ (j : ℕ). own_members (shared_by keys x) j (known_in x.body) (k, name)) same
-        ∙ ap (λ (y : Aggregate). own_members (shared_by keys y) k (known_in y.body) (k, name)) (some_is x it is)
+        ∙ ap (λ (y : Aggregate). own_members (shared_by keys y) k (known_in y.body) (k, name)) (same_Some x it is)
     own_here m (suc n) k (x ∷ some) it name at is =
         ap (λ o. or_else o (first_own keys (suc m) some (k, name)))
-        (own_other (shared_by keys x) m k (known_in x.body) name (not_same m k (λ same. omega arith)))
+        (own_other (shared_by keys x) m k (known_in x.body) name (not_equal m k (λ same. omega arith)))
         ∙ own_here (suc m) n k some it name (omega arith) is
 
-    module _ (key : rules.StructKey) (s : Shared) (has : keyed keys key ≡ Some s) (several : s.is_elsewhere ≡ true) where
+    module _ (key : rules.StructKey) (s : Shared) (has : keyed keys key ≡ Some s)
+        (several : s.is_elsewhere ≡ true) where
       -- a definition of this key has its members by the number of the first one
       of_key : (held : Option StructKey) (known : List Known) (p : Place) → is_keyed_by key held ≡ true
           → key_members (if_elsewhere (keyed_by keys held)) known p ≡ first_known s.first known p
       of_key None known p holds = absurd cc
       of_key (Some other) known p holds =
-          ap (λ (k : rules.StructKey). key_members (if_elsewhere (keyed keys k)) known p) (key_is (key_of other) key holds)
+          ap (λ (k : rules.StructKey). key_members (if_elsewhere (keyed keys k)) known p)
+          (key_is (key_of other) key holds)
           ∙ ap (λ (o : Option Shared). key_members (if_elsewhere o) known p) has
           ∙ ap (λ b. key_members (if b then Some s else None) known p) several
 
@@ -141,10 +147,12 @@ module _ (t : ℕ → CType) where
           by_known : (o : Option Shared) → keyed keys (key_of other) ≡ o
               → key_members (if_elsewhere o) known (s.first, name) ≡ None
           by_known None is = refl
-          by_known (Some u) is = by_flag u u.is_elsewhere (not_same u.first s.first (λ number.
-              let same = one_key t all (key_of other) key u s (sym (are (key_of other)) ∙ is) (sym (are key) ∙ has) number in
+          by_known (Some u) is = by_flag u u.is_elsewhere (not_equal u.first s.first (λ number.
+              let same =
+              one_key t all (key_of other) key u s (sym (are (key_of other)) ∙ is) (sym (are key) ∙ has) number in
               let no : false ≡ true =
-              sym apart ∙ ap (λ (k : rules.StructKey). is_keyed_by k (Some other)) (sym same) ∙ key_same (key_of other) in
+              sym apart ∙ ap (λ (k : rules.StructKey). is_keyed_by k (Some other)) (sym same)
+              ∙ key_same (key_of other) in
               cc))
 
       of_one : (it : Aggregate) (name : ℕ) → key_members (shared_by keys it) (known_in it.body) (s.first, name)
@@ -154,7 +162,8 @@ module _ (t : ℕ → CType) where
           ∙ ap (λ b. member_where b (aggregate_of t it) name) (held_is t key it)
         where
           by_test : (b : Bool) → is_keyed_by key (key_held it) ≡ b
-              → key_members (shared_by keys it) (known_in it.body) (s.first, name) ≡ member_where b (aggregate_of t it) name
+              → key_members (shared_by keys it) (known_in it.body) (s.first, name)
+              ≡ member_where b (aggregate_of t it) name
           by_test true holds =
               of_key (key_held it) (known_in it.body) (s.first, name) holds ∙ first_here s.first it.body name
           by_test false apart = of_other (key_held it) (known_in it.body) name apart
@@ -163,7 +172,8 @@ module _ (t : ℕ → CType) where
       among_here [] name = refl
       among_here (it ∷ some) name =
           ap (λ (o : Option Place). or_else o (first_among keys some (s.first, name))) (of_one it name)
-          ∙ ap (λ (o : Option Place). or_else (member_where (defines key (aggregate_of t it)) (aggregate_of t it) name) o)
+          ∙ ap (λ (o : Option Place).
+          or_else (member_where (defines key (aggregate_of t it)) (aggregate_of t it) name) o)
           (among_here some name)
           ∙ first_place (member_where (defines key (aggregate_of t it)) (aggregate_of t it) name) (among key some name)
 
@@ -206,8 +216,9 @@ module _ (t : ℕ → CType) where
             → or_else (if_there b (if is_place q k.at then member_there firsts (s.first, k.name) else None)) rest
             ≡ option_and_then first (if b && is_place q p then Some k.name else named)
         by_place q true is some behind =
-            ap (λ (r : Place). or_else (if_there true (if is_place q r then member_there firsts (s.first, k.name) else None)) rest)
-            (same_place k.at p is)
+            ap (λ (r : Place).
+            or_else (if_there true (if is_place q r then member_there firsts (s.first, k.name) else None)) rest)
+            (place_is k.at p is)
             ∙ by_same (is_place q p) some behind
         by_place q false is some behind =
             not_there (if is_place q k.at then member_there firsts (s.first, k.name) else None) behind
@@ -217,7 +228,8 @@ module _ (t : ℕ → CType) where
             → or_else (link_there (link_where firsts s k o) k.at p) rest
             ≡ option_and_then first (if is_place k.at p && is_found p o then Some k.name else named)
         by_found None some behind =
-            behind ∙ ap (λ b. option_and_then first (if b then Some k.name else named)) (sym (and_false (is_place k.at p)))
+            behind ∙ ap (λ b. option_and_then first (if b then Some k.name else named))
+            (sym (and_false (is_place k.at p)))
         by_found (Some q) some behind =
             ap (λ (o : Option Place). or_else o rest)
             (link_is_there (if is_place q k.at then member_there firsts (s.first, k.name) else None) k.at p)
@@ -243,7 +255,8 @@ module _ (t : ℕ → CType) where
         → it.body ≡ Some body → key_held it ≡ Some key
         → shared_links own firsts n (if_elsewhere (keyed_by keys (key_held it))) body.known p
         ≡ (if defines (key_of key) (aggregate_of t it) && is_elsewhere it.at.0 (key_of key) shown
-        then option_and_then (λ name. among (key_of key) all name) (name_found (body_of t body) (map (known_of t) body.known) p)
+        then option_and_then (λ name. among (key_of key) all name)
+        (name_found (body_of t body) (map (known_of t) body.known) p)
         else None)
     of_source n it key body p at body_is held =
         ap (λ (h : Option StructKey). shared_links own firsts n (if_elsewhere (keyed_by keys h)) body.known p) held
@@ -269,12 +282,14 @@ module _ (t : ℕ → CType) where
         known_is = are (key_of key) ∙ found.1
 
         links : Option Place
-        links = option_and_then (λ name. among (key_of key) all name) (name_found (body_of t body) (map (known_of t) body.known) p)
+        links = option_and_then (λ name. among (key_of key) all name)
+            (name_found (body_of t body) (map (known_of t) body.known) p)
 
         own_members_are : s.is_elsewhere ≡ true → (name : ℕ) → member_there own (n, name) ≡ found_in (Some body) name
         own_members_are several name =
             own_is (n, name) ∙ own_here keys all are 0 n n all it name (omega arith) at
-            ∙ ap (λ (h : Option StructKey). own_members (if_elsewhere (keyed_by keys h)) n (known_in it.body) (n, name)) held
+            ∙ ap
+            (λ (h : Option StructKey). own_members (if_elsewhere (keyed_by keys h)) n (known_in it.body) (n, name)) held
             ∙ ap (λ (o : Option Shared). own_members (if_elsewhere o) n (known_in it.body) (n, name)) known_is
             ∙ ap (λ b. own_members (if b then Some s else None) n (known_in it.body) (n, name)) several
             ∙ ap (λ (b : Option OneBody). first_known n (known_in b) (n, name)) body_is
@@ -283,14 +298,16 @@ module _ (t : ℕ → CType) where
         some_among : (name : ℕ) → is_some (found_in (Some body) name) ≡ true
             → is_some (among (key_of key) all name) ≡ true
         some_among name some =
-            among_some (key_of key) it name defined (ap (λ (b : Option OneBody). is_some (found_in b name)) body_is ∙ some) all n at
+            among_some (key_of key) it name defined
+            (ap (λ (b : Option OneBody). is_some (found_in b name)) body_is ∙ some) all n at
 
         by_flag : (b : Bool) → s.is_elsewhere ≡ b
             → shared_links own firsts n (if b then Some s else None) body.known p ≡ (if b then links else None)
         by_flag false is = refl
         by_flag true is =
             links_same own firsts n s body (λ name. among (key_of key) all name) (own_members_are is)
-            (λ name. first_is (s.first, name) ∙ among_here keys all are (key_of key) s known_is is all name) some_among p body.known
+            (λ name. first_is (s.first, name)
+            ∙ among_here keys all are (key_of key) s known_is is all name) some_among p body.known
 
     -- the links of one definition
     of_one_struct : (n : ℕ) (it : Aggregate) (p : Place) → slice_get all n ≡ Some it
@@ -326,7 +343,8 @@ module _ (t : ℕ → CType) where
             no_links n (known_in body) p (key_held it)
             (none_either (is_some it.body && in_source) it.key key_is)
         by_parts (Some key) None key_is body_is =
-            no_links n [] p (key_held it) (ap (λ (o : Option OneBody). if is_some o && in_source then it.key else None) body_is)
+            no_links n [] p (key_held it)
+            (ap (λ (o : Option OneBody). if is_some o && in_source then it.key else None) body_is)
         by_parts (Some key) (Some body) key_is body_is = by_source key body in_source key_is body_is refl
 
     of_structs : (m : ℕ) (some : List Aggregate) (p : Place)
@@ -346,4 +364,5 @@ module _ (t : ℕ → CType) where
 
     -- all links of members are those of the rules
     pub members_are : (p : Place) → all_links own firsts keys 0 all p ≡ member_link shown shown p
-    members_are p = of_structs 0 all p (λ i x is. let same : 0 + i ≡ i = omega arith in ap (λ (j : ℕ). slice_get all j) same ∙ is)
+    members_are p =
+        of_structs 0 all p (λ i x is. let same : 0 + i ≡ i = omega arith in ap (λ (j : ℕ). slice_get all j) same ∙ is)

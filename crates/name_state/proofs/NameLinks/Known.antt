@@ -1,6 +1,8 @@
 -- What is known by a key, against the definitions that have it.
 use Rattle.std.proofs.Common.{◌≡◌, ℕ, zero, suc, ◌+◌, arith, Bool, true, false, not, ◌&&◌, ◌||◌, nat_eq, List, [], ◌∷◌, map, slice_get, Option, Some, None, is_some, option_map, inl, inr, refl, sym, ◌∙◌, ap, if◌then◌else◌}
 use Rattle.std.proofs.lemmas.Bool.Decides.{eqb_tells}
+use Rattle.std.proofs.lemmas.Option.{same_Some}
+use Rattle.qual_base.proofs.Tests.{and_false, or_false}
 use Rattle.type_table.specs.Types.{CType}
 use Rattle.name_rules.specs.Scopes as rules
 use Rattle.name_rules.specs.Linking.{is_same_key, is_key, defines, is_elsewhere}
@@ -10,14 +12,7 @@ use Rattle.name_tables.specs.NameRecords.Bodies.{OneBody}
 use Rattle.name_state.specs.UnitNames.Shown.{key_of, body_of, aggregate_of}
 use Rattle.name_state.specs.declared.name_links.keys.Shared.{Shared}
 use Rattle.name_state.specs.NameLinks.Tables.{with_unit, key_held, is_keyed_by, known_behind}
-use Rattle.name_state.proofs.NameLinks.Tests.{and_true, and_false, or_false, or_true, or_assoc, number_sym, key_sym, key_is}
-
-pub some_is : {A : Type 0} (x y : A) → Some x ≡ Some y → x ≡ y
-some_is {A = A} x y is = ap (λ (o : Option A). or_this o) is
-  where
-    or_this : Option A → A
-    or_this None = x
-    or_this (Some z) = z
+use Rattle.name_state.proofs.NameLinks.Tests.{and_true, or_true, or_assoc, number_sym, key_sym, key_is}
 
 module _ (t : ℕ → CType) where
   held_by : (key : rules.StructKey) (held : Option StructKey) (body : Option OneBody) (in_source : Bool)
@@ -28,7 +23,8 @@ module _ (t : ℕ → CType) where
   held_by key None (Some body) false = refl
   held_by key (Some other) None in_source = sym (and_false (is_same_key key (key_of other)))
   held_by key (Some other) (Some body) false = sym (and_false (is_same_key key (key_of other)))
-  held_by key (Some other) (Some body) true = key_sym (key_of other) key ∙ sym (and_true (is_same_key key (key_of other)))
+  held_by key (Some other) (Some body) true =
+      key_sym (key_of other) key ∙ sym (and_true (is_same_key key (key_of other)))
 
   -- whether a definition has a key
   pub held_is : (key : rules.StructKey) (it : Aggregate)
@@ -41,8 +37,10 @@ module _ (t : ℕ → CType) where
 
   -- where a key has a definition, further ones say only whether they are elsewhere
   pub known_some : (key : rules.StructKey) (s : Shared) (n : ℕ) (all : List Aggregate)
-      → known_behind key (Some s) n all ≡ Some (record s { is_elsewhere = s.is_elsewhere || others_have s.unit key all })
-  known_some key s n [] = ap (λ (b : Bool). Some (let r : Shared = record s { is_elsewhere = b } in r)) (sym (or_false s.is_elsewhere))
+      → known_behind key (Some s) n all
+      ≡ Some (record s { is_elsewhere = s.is_elsewhere || others_have s.unit key all })
+  known_some key s n [] =
+      ap (λ (b : Bool). Some (let r : Shared = record s { is_elsewhere = b } in r)) (sym (or_false s.is_elsewhere))
   known_some key s n (it ∷ all) =
       by_test (is_keyed_by key (key_held it)) (λ more. known_some key more (suc n) all)
       ∙ ap (λ (b : Bool). Some (let r : Shared = record s {
@@ -53,7 +51,8 @@ module _ (t : ℕ → CType) where
           → ((more : Shared) → known_behind key (Some more) (suc n) all
           ≡ Some (record more { is_elsewhere = more.is_elsewhere || others_have more.unit key all }))
           → known_behind key (if b then Some (with_unit (Some s) n it.at.0) else Some s) (suc n) all
-          ≡ Some (record s { is_elsewhere = s.is_elsewhere || ((b && not (nat_eq it.at.0 s.unit)) || others_have s.unit key all) })
+          ≡ Some (record s
+          { is_elsewhere = s.is_elsewhere || ((b && not (nat_eq it.at.0 s.unit)) || others_have s.unit key all) })
       by_test false behind = behind s
       by_test true behind =
           behind (with_unit (Some s) n it.at.0)
@@ -64,7 +63,8 @@ module _ (t : ℕ → CType) where
   -- the first definition of a key is at its number
   abbrev Holder : ℕ → List Aggregate → rules.StructKey → Shared → Type 0
   Holder n all key s =
-      (i : ℕ) × (it : Aggregate) × (slice_get all i ≡ Some it) × (s.first ≡ n + i) × (is_keyed_by key (key_held it) ≡ true)
+      (i : ℕ) × (it : Aggregate) × (slice_get all i ≡ Some it) × (s.first ≡ n + i)
+      × (is_keyed_by key (key_held it) ≡ true)
 
   abbrev first_of_some : Option Shared → ℕ
   first_of_some None = 0
@@ -99,7 +99,7 @@ module _ (t : ℕ → CType) where
       let x = holder a 0 all s first in
       let y = holder b 0 all u second in
       let number : x.0 ≡ y.0 = omega (arith, x.3, y.3, same) in
-      let it_is : x.1 ≡ y.1 = some_is x.1 y.1 (sym x.2 ∙ ap (λ (i : ℕ). slice_get all i) number ∙ y.2) in
+      let it_is : x.1 ≡ y.1 = same_Some x.1 y.1 (sym x.2 ∙ ap (λ (i : ℕ). slice_get all i) number ∙ y.2) in
       same_holder a b (key_held x.1) x.4 (ap (λ (it : Aggregate). is_keyed_by b (key_held it)) it_is ∙ y.4)
 
   -- a definition in another unit is elsewhere
@@ -109,11 +109,12 @@ module _ (t : ℕ → CType) where
   elsewhere_by key unit it holds apart [] i there = absurd cc
   elsewhere_by key unit it holds apart (x ∷ all) zero there =
       ap (λ (y : Aggregate). (defines key (aggregate_of t y) && not (nat_eq y.at.0 unit)) || others_have unit key all)
-      (some_is x it there)
+      (same_Some x it there)
       ∙ ap (λ b. (b && not (nat_eq it.at.0 unit)) || others_have unit key all) (sym (held_is key it) ∙ holds)
       ∙ ap (λ b. not b || others_have unit key all) apart
   elsewhere_by key unit it holds apart (x ∷ all) (suc i) there =
-      ap (λ b. (defines key (aggregate_of t x) && not (nat_eq x.at.0 unit)) || b) (elsewhere_by key unit it holds apart all i there)
+      ap (λ b. (defines key (aggregate_of t x) && not (nat_eq x.at.0 unit)) || b)
+      (elsewhere_by key unit it holds apart all i there)
       ∙ or_true (defines key (aggregate_of t x) && not (nat_eq x.at.0 unit))
 
   -- what is known by the key of a definition
@@ -131,7 +132,7 @@ module _ (t : ℕ → CType) where
       of_first : (j : ℕ) → slice_get (x ∷ all) j ≡ Some it → nat_eq x.at.0 it.at.0 ≡ false
           → others_have x.at.0 key all ≡ true
       of_first zero there apart =
-          absurd (let no : true ≡ false = sym (same_unit (some_is x it there)) ∙ apart in cc)
+          absurd (let no : true ≡ false = sym (same_unit (same_Some x it there)) ∙ apart in cc)
         where
           same_unit : x ≡ it → nat_eq x.at.0 it.at.0 ≡ true
           same_unit is = elim (eqb_tells x.at.0 it.at.0) [
@@ -158,11 +159,13 @@ module _ (t : ℕ → CType) where
             ∙ ap (λ b. (b && not (nat_eq x.at.0 it.at.0)) || others_have it.at.0 key all) (sym is ∙ held_is key x),
       )
       by_test false is zero there behind =
-          absurd (let no : false ≡ true = sym is ∙ ap (λ (y : Aggregate). is_keyed_by key (key_held y)) (some_is x it there)
+          absurd (let no : false ≡ true =
+          sym is ∙ ap (λ (y : Aggregate). is_keyed_by key (key_held y)) (same_Some x it there)
           ∙ holds in cc)
       by_test false is (suc j) there behind =
           let found = behind j there in (
             found.0,
             ap (λ b. known_behind key (if b then Some (with_unit None n x.at.0) else None) (suc n) all) is ∙ found.1,
-            found.2 ∙ ap (λ b. (b && not (nat_eq x.at.0 it.at.0)) || others_have it.at.0 key all) (sym is ∙ held_is key x),
+            found.2 ∙ ap (λ b. (b && not (nat_eq x.at.0 it.at.0)) || others_have it.at.0 key all)
+                (sym is ∙ held_is key x),
           )

@@ -1,17 +1,12 @@
 -- Lists that are gone through from the first item on: what was seen, the last of it first, and what is left.
-use Rattle.std.proofs.Common.{◌≡◌, ℕ, zero, suc, ◌+◌, ◌<◌, ◌≤◌, arith, List, [], ◌∷◌, ◌++◌, length, take, drop, reverse, slice_index_or, refl, sym, ◌∙◌, ap}
+use Rattle.std.proofs.Common.{◌≡◌, ℕ, zero, suc, ◌+◌, ◌<◌, ◌≤◌, arith, List, [], ◌∷◌, ◌++◌, length, take, drop, reverse, slice_index_or, sym, ◌∙◌, ap}
 use Rattle.std.proofs.lemmas.List.{reverse-append}
+use Rattle.qual_base.proofs.Lists.{take_whole}
 
 module _ {A : Type 0} where
-  whole : (xs : List A) (i : ℕ) → length xs ≤ i → take i xs ≡ xs
-  whole [] zero le = refl
-  whole [] (suc i) le = refl
-  whole (x ∷ xs) zero le = absurd (omega arith)
-  whole (x ∷ xs) (suc i) le = ap (λ ys. x ∷ ys) (whole xs i (omega arith))
-
   -- all of them
   pub all_reversed : (xs : List A) (i : ℕ) → length xs ≤ i → reverse (take i xs) ≡ reverse xs
-  all_reversed xs i le = ap reverse (whole xs i le)
+  all_reversed xs i le = ap reverse (take_whole xs i le)
 
   taken_more : (xs : List A) (i : ℕ) (x : A) → x ≡ slice_index_or xs i x → i < length xs
       → take (i + 1) xs ≡ take i xs ++ x ∷ []
@@ -35,13 +30,3 @@ module _ {A : Type 0} where
   next_dropped f (y ∷ xs) (suc i) x is lt =
       let e : suc i + 1 ≡ suc (i + 1) = omega arith in
       rw e (next_dropped f xs i x is (omega arith))
-
-  none_left : (xs : List A) (i : ℕ) → length xs ≤ i → drop i xs ≡ []
-  none_left [] zero le = refl
-  none_left [] (suc i) le = refl
-  none_left (x ∷ xs) zero le = absurd (omega arith)
-  none_left (x ∷ xs) (suc i) le = none_left xs i (omega arith)
-
-  -- nothing is left
-  pub none_dropped : {B : Type 0} (f : List A → B) (xs : List A) (i : ℕ) → length xs ≤ i → f (drop i xs) ≡ f []
-  none_dropped f xs i le = ap f (none_left xs i le)

@@ -20,7 +20,8 @@ pub static_added : (all : List (ℕ × ℕ)) (i : ℕ) (it : ℕ × ℕ) (before
     → AreStatics (reverse (take (i + 1) all)) after
 static_added all i it before after value is lt known set = λ unit name.
     ap is_some (set (unit, name))
-    ∙ by_test (is_place it (unit, name)) value (get is_place before (unit, name)) (is_internal (reverse (take i all)) unit name)
+    ∙ by_test (is_place it (unit, name)) value (get is_place before (unit, name))
+    (is_internal (reverse (take i all)) unit name)
     (known unit name)
     ∙ ap (λ (them : List (ℕ × ℕ)). is_internal them unit name) (sym (one_reversed all i it is lt))
 

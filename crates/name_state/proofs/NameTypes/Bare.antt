@@ -2,38 +2,32 @@
 use Rattle.std.proofs.Common.{arith, ◌≡◌, ◌⊎◌, inl, inr, ℕ, zero, suc, ◌+◌, ◌<◌, ◌≤◌, ◌++◌, Bool, true, false, List, [], ◌∷◌, length, length-append, map, slice_get, unwrap_or, None, refl, sym, ◌∙◌, ap}
 use Rattle.std.proofs.lemmas.Bool.{cases_lt}
 use Rattle.std.proofs.lemmas.Option.{slice_get_past}
-use Rattle.type_table.specs.declared.row.Row.{Row}
+use Rattle.type_table.specs.declared.row.TypeRow.{TypeRow}
 use Rattle.type_table.specs.Types.{Words, CType, base, function}
 use Rattle.type_table.specs.Rows.{grown, row_type, type_of, types_of, types_at, some_where, AreBelow}
 use Rattle.name_rules.specs.Pieces.{bare, all_bare, bare_ellipsis}
 use Rattle.name_state.specs.NameTypes.Known.{Grows, AreBare, bare_at}
 use Rattle.name_state.proofs.NameTypes.Knowing.{same_function}
 
-pub empty_is : {A : Type 0} (xs : List A) → length xs ≡ 0 → xs ≡ []
-empty_is [] e = refl
-empty_is (x ∷ xs) e = absurd (omega arith)
-
 -- past a table there are base types
 
-longer : (ts : List CType) (rows : List Row) → length (grown ts rows) ≡ length ts + length rows
+-- types grown by rows are as many as they were and the rows
+longer : (ts : List CType) (rows : List TypeRow) → length (grown ts rows) ≡ length ts + length rows
 longer ts [] = omega arith
 longer ts (row ∷ rows) =
     let l = length-append ts (row_type ts row ∷ []) in
     let r = longer (ts ++ row_type ts row ∷ []) rows in
     omega arith
 
-pub past_is : (rows : List Row) (n : ℕ) → length rows ≤ n → type_of rows n ≡ base []
+-- a number past the end of a table is of the base type
+pub past_is : (rows : List TypeRow) (n : ℕ) → length rows ≤ n → type_of rows n ≡ base []
 past_is rows n le =
     let r : length (types_of rows) ≡ 0 + length rows = longer [] rows in
     let p : slice_get (types_of rows) n ≡ None = slice_get_past (types_of rows) n (omega arith) in
     rw p refl
 
--- of no types
-pub bare_none : (rows : List Row) → AreBare rows []
-bare_none rows = record { few = omega arith; low = λ n lt. absurd (omega arith); same = λ n lt. absurd (omega arith) }
-
 -- in a table that grew
-pub bare_grows : (old new : List Row) (bares : List ℕ) → Grows old new → AreBare old bares → AreBare new bares
+pub bare_grows : (old new : List TypeRow) (bares : List ℕ) → Grows old new → AreBare old bares → AreBare new bares
 bare_grows old new bares grows h = record {
   few = let f = h.few in let l = grows.longer in omega arith;
   low = λ n lt. let f = h.low n lt in let l = grows.longer in omega arith;
@@ -41,12 +35,12 @@ bare_grows old new bares grows h = record {
       ap bare (sym (grows.keeps n (let f = h.few in omega arith)));
 }
 
-pub bare_types : (rows : List Row) (bares ns : List ℕ) → AreBare rows bares → AreBelow (length bares) ns →
+pub bare_types : (rows : List TypeRow) (bares ns : List ℕ) → AreBare rows bares → AreBelow (length bares) ns →
     all_bare (types_at (types_of rows) ns) ≡ types_at (types_of rows) (map (bare_at bares) ns)
 bare_types rows bares [] h low = refl
 bare_types rows bares (n ∷ ns) h low = rw (h.same n low.0, bare_types rows bares ns h low.1) refl
 
-pub bare_below : (rows : List Row) (bares ns : List ℕ) → AreBare rows bares → AreBelow (length bares) ns →
+pub bare_below : (rows : List TypeRow) (bares ns : List ℕ) → AreBare rows bares → AreBelow (length bares) ns →
     AreBelow (length rows) (map (bare_at bares) ns)
 bare_below rows bares [] h low = tt
 bare_below rows bares (n ∷ ns) h low = (h.low n low.0, bare_below rows bares ns h low.1)
@@ -55,16 +49,17 @@ pub bare_dots : (e : Bool) (es : Words) → bare_ellipsis (some_where e es) ≡ 
 bare_dots true es = refl
 bare_dots false es = refl
 
-pub bare_function : (rows : List Row) (bares ps : List ℕ) (r : ℕ) (e : Bool) (ws es : Words) (t : CType)
+pub bare_function : (rows : List TypeRow) (bares ps : List ℕ) (r : ℕ) (e : Bool) (ws es : Words) (t : CType)
     → AreBare rows bares →
     AreBelow (length bares) ps → r < length bares →
     t ≡ function ws (types_at (types_of rows) ps) (type_of rows r) (some_where e es) →
-    function [] (types_at (types_of rows) (map (bare_at bares) ps)) (type_of rows (bare_at bares r)) (some_where e []) ≡ bare t
+    function [] (types_at (types_of rows) (map (bare_at bares) ps)) (type_of rows (bare_at bares r))
+    (some_where e []) ≡ bare t
 bare_function rows bares ps r e ws es t h low lt is =
     same_function refl (sym (bare_types rows bares ps h low)) (h.same r lt) (sym (bare_dots e es)) ∙ ap bare (sym is)
 
 -- a function whose parts are without words
-pub own_function : (rows : List Row) (bares ps : List ℕ) (r : ℕ) (e : Bool) (t : CType) → AreBare rows bares →
+pub own_function : (rows : List TypeRow) (bares ps : List ℕ) (r : ℕ) (e : Bool) (t : CType) → AreBare rows bares →
     AreBelow (length bares) ps → r < length bares →
     t ≡ function [] (types_at (types_of rows) ps) (type_of rows r) (some_where e []) →
     map (bare_at bares) ps ≡ ps → bare_at bares r ≡ r → bare t ≡ t
@@ -72,6 +67,7 @@ own_function rows bares ps r e t h low lt is params back =
     sym (bare_function rows bares ps r e [] [] t h low lt is) ∙
     same_function refl (ap (types_at (types_of rows)) params) (ap (type_of rows) back) refl ∙ sym is
 
+-- an item pushed at the end changes no item before it
 got_front : (xs : List ℕ) (y n d : ℕ) → n < length xs
     → unwrap_or (slice_get (xs ++ y ∷ []) n) d ≡ unwrap_or (slice_get xs n) d
 got_front [] y n d lt = absurd (omega arith)
@@ -83,7 +79,7 @@ got_end [] y d = refl
 got_end (x ∷ xs) y d = got_end xs y d
 
 -- the type of one more
-pub bare_more : (old new : List Row) (bares all : List ℕ) (at : ℕ) → AreBare old bares → length bares < length old →
+pub bare_more : (old new : List TypeRow) (bares all : List ℕ) (at : ℕ) → AreBare old bares → length bares < length old →
     Grows old new → at < length new → type_of new at ≡ bare (type_of old (length bares)) → all ≡ bares ++ at ∷ [] →
     AreBare new all
 bare_more old new bares all at h room grows low is all_is =

@@ -15,4 +15,5 @@ begun t s declared scopes aggregates things statics round uses type_names faults
     rw declared
     (rw scopes
     (rw aggregates
-    (rw things (rw statics (rw round (rw uses (rw type_names (rw faults (rw bodies (rw enclosing (rw kept refl)))))))))))
+    (rw things
+    (rw statics (rw round (rw uses (rw type_names (rw faults (rw bodies (rw enclosing (rw kept refl)))))))))))

@@ -18,6 +18,7 @@ abbrev pub use_or_missing : Option NameUse → rules.Use
 use_or_missing None = rules.missing
 use_or_missing (Some it) = use_of it.use_of
 
+-- the first use at a place, or a missing one, is the use that the rules find there
 use_first : (us : List NameUse) (at : Place) → use_or_missing (first_use us at) ≡ use_at (map name_use_of us) at
 use_first [] at = refl
 use_first (u ∷ us) at = by_test (rules.is_place u.at at) (use_first us at)
@@ -32,6 +33,7 @@ pub use_found : (us : List NameUse) (at : Place) (o : Option NameUse) → o ≡ 
     use_or_missing o ≡ use_at (map name_use_of us) at
 use_found us at o is = ap use_or_missing is ∙ use_first us at
 
+-- the type of the first type's name at a place is the one that the rules find there
 type_first : (t : ℕ → CType) (ts : List TypeNamed) (at : Place)
     → option_map t (first_type ts at) ≡ type_named_at (map (type_named_of t) ts) at
 type_first t [] at = refl

@@ -1,7 +1,7 @@
 -- What sources see of the prelude.
-use Rattle.std.proofs.Common.{arith, ◌≡◌, ℕ, zero, suc, ◌+◌, ◌<◌, nat_eq, Bool, false, List, [], ◌∷◌, ◌++◌, length, drop, reverse, map, slice_index_or, Option, Some, None, option_map, inl, inr, refl, sym, ◌∙◌, ap, append_assoc, append-nil, if◌then◌else◌}
-use Rattle.std.proofs.lemmas.Bool.Decides.{eqb_tells}
+use Rattle.std.proofs.Common.{arith, ◌≡◌, ℕ, zero, suc, ◌+◌, ◌<◌, nat_eq, Bool, List, [], ◌∷◌, ◌++◌, length, drop, reverse, map, slice_index_or, Option, Some, None, option_map, refl, sym, ◌∙◌, ap, append_assoc, append-nil, if◌then◌else◌}
 use Rattle.std.proofs.lemmas.List.{reverse-append}
+use Rattle.qual_base.proofs.Tests.{not_equal}
 use Rattle.type_table.specs.Types.{CType}
 use Rattle.name_rules.specs.Spellings.{Place}
 use Rattle.name_rules.specs.Scopes as rules
@@ -18,6 +18,7 @@ use Rattle.name_state.specs.declared.unit_names.names.Names.{Names}
 use Rattle.name_state.specs.UnitNames.Shown.{role_of, meaning_of, entry_of, declared_of, names_of}
 use Rattle.name_state.proofs.UnitNames.Views.{first_is, innermost_is, outer_is}
 
+-- what two lists of names in a row share is what the first shares, then what the second does
 shared_more : (all : List Declared) (xs ys : List (ℕ × Meant)) → shared all (xs ++ ys) ≡ shared all xs ++ shared all ys
 shared_more all [] ys = refl
 shared_more all (x ∷ xs) ys =
@@ -25,7 +26,8 @@ shared_more all (x ∷ xs) ys =
     ∙ sym (append_assoc (shared_name all x.0 x.1) (shared all xs) (shared all ys))
 
 -- one name more
-pub shared_on : (all : List Declared) (names : List (ℕ × Meant)) (i : ℕ) (it : ℕ × Meant) (round after : List (ℕ × Place))
+pub shared_on : (all : List Declared) (names : List (ℕ × Meant)) (i : ℕ) (it : ℕ × Meant)
+    (round after : List (ℕ × Place))
     → it ≡ slice_index_or names i it → i < length names → after ≡ shared_name all it.0 it.1 ++ round
     → shared all (reverse (drop (i + 1) names)) ++ after ≡ shared all (reverse (drop i names)) ++ round
 shared_on all [] i it round after is lt made = absurd (omega arith)
@@ -40,12 +42,6 @@ shared_on all (x ∷ names) zero it round after is lt made =
     ∙ ap (λ (xs : List (ℕ × Meant)). shared all xs ++ round) (sym (reverse-append (x ∷ []) names))
 shared_on all (x ∷ names) (suc i) it round after is lt made =
     let e : suc i + 1 ≡ suc (i + 1) = omega arith in rw e (shared_on all names i it round after is (omega arith) made)
-
-differs : (m n : ℕ) → (m ≡ n → ⊥) → nat_eq m n ≡ false
-differs m n apart = elim (eqb_tells m n) [
-  | inl same ↦ absurd (apart same.1)
-  | inr other ↦ other.0
-]
 
 module _ (t : ℕ → CType) where
   role_is : (d : rules.Declared) (r : Role) → units.is_shared (Some (record d { role = role_of r })) ≡ is_shared_role r
@@ -76,11 +72,13 @@ module _ (t : ℕ → CType) where
       ∙ ap (λ (zs : List (ℕ × Place)). shared_name s.declared it.0 it.1 ++ zs) (shared_is s names)
 
   -- what sources see of the prelude, whose scope ends
-  pub shared_is_round : (s : Names) (scopes : List OneScope) (round : List (ℕ × Place)) (names : List (ℕ × Meant)) (file : OneScope)
+  pub shared_is_round : (s : Names) (scopes : List OneScope) (round : List (ℕ × Place)) (names : List (ℕ × Meant))
+      (file : OneScope)
       → scopes ≡ outer_scopes s.scopes → file ≡ innermost s.scopes → reverse names ≡ file.names
       → round ≡ shared s.declared (reverse names) ++ []
       → names_of t (record s { scopes = scopes; round = round })
-      ≡ record (rules.leave (names_of t s)) { round = units.shared (names_of t s) (rules.innermost (names_of t s).scopes).names }
+      ≡ record (rules.leave (names_of t s))
+      { round = units.shared (names_of t s) (rules.innermost (names_of t s).scopes).names }
   unfolding names_of
   shared_is_round s scopes round names file scopes_are file_is names_are round_is =
       let whole = append-nil (shared s.declared (reverse names))
@@ -106,7 +104,8 @@ module _ (t : ℕ → CType) where
       ∙ ap
       (λ (b : Bool). let r : rules.Names = record (names_of t before) {
         scopes = rules.no_scope ∷ [];
-        round = if b then units.shared (names_of t before) (rules.innermost (names_of t before).scopes).names else before.round;
+        round = if b then units.shared (names_of t before) (rules.innermost (names_of t before).scopes).names
+            else before.round;
       } in r)
       (sym (ap (λ (n : ℕ). nat_eq n 1) is_first))
 
@@ -120,6 +119,7 @@ module _ (t : ℕ → CType) where
       ∙ ap
       (λ (b : Bool). let r : rules.Names = record (names_of t before) {
         scopes = rules.no_scope ∷ [];
-        round = if b then units.shared (names_of t before) (rules.innermost (names_of t before).scopes).names else before.round;
+        round = if b then units.shared (names_of t before) (rules.innermost (names_of t before).scopes).names
+            else before.round;
       } in r)
-      (sym (differs unit 1 is_other))
+      (sym (not_equal unit 1 is_other))

@@ -1,6 +1,7 @@
 -- What rules find in what a program shows of names.
-use Rattle.std.proofs.Common.{arith, ◌≡◌, ℕ, zero, suc, ◌-◌, nat_eq, Bool, true, false, ◌&&◌, List, [], ◌∷◌, ◌++◌, length, map, slice_get, Option, Some, None, option_map, refl, sym, ◌∙◌, ap, if◌then◌else◌}
+use Rattle.std.proofs.Common.{arith, ◌≡◌, ℕ, zero, suc, ◌-◌, nat_eq, Bool, true, false, ◌&&◌, List, [], ◌∷◌, length, map, slice_get, Option, Some, None, option_map, refl, sym, ◌∙◌, ap, if◌then◌else◌}
 use Rattle.std.specs.List.{last_or}
+use Rattle.qual_base.proofs.Lists.{map_more, map_length}
 use Rattle.type_table.specs.Types.{CType}
 use Rattle.tape_ops.specs.declared.specifier.TagKind.{TagKind}
 use Rattle.name_lists.specs.Newest.{newest}
@@ -17,14 +18,7 @@ use Rattle.name_tables.specs.NameRecords.Bodies as bodies
 use Rattle.name_tables.specs.NameRecords.Aggregates as aggregates
 use Rattle.name_state.specs.UnitNames.Shown.{tagged_of, meaning_of, entry_of, scope_of, declared_of, own_of, known_of, body_of, key_of, aggregate_of}
 
-pub map_more : {A B : Type 0} (f : A → B) (xs ys : List A) → map f (xs ++ ys) ≡ map f xs ++ map f ys
-map_more f [] ys = refl
-map_more f (x ∷ xs) ys = ap (λ zs. f x ∷ zs) (map_more f xs ys)
-
-pub map_length : {A B : Type 0} (f : A → B) (xs : List A) → length (map f xs) ≡ length xs
-map_length f [] = refl
-map_length f (x ∷ xs) = ap suc (map_length f xs)
-
+-- an item of what a list shows is what the item of the list shows
 pub map_get : {A B : Type 0} (f : A → B) (xs : List A) (n : ℕ) → slice_get (map f xs) n ≡ option_map f (slice_get xs n)
 map_get f [] n = refl
 map_get f (x ∷ xs) zero = refl
@@ -35,6 +29,7 @@ pub map_last : {A B : Type 0} (f : A → B) (o : Option A) (xs : List A) → las
 map_last f o [] = refl
 map_last f o (x ∷ xs) = map_last f (Some x) xs
 
+-- what a changed list shows is what the list shows, changed alike at the same position
 pub map_changed : {A B : Type 0} (f : A → B) (g : A → A) (h : B → B) → ((x : A) → f (g x) ≡ h (f x))
     → (xs : List A) (n : ℕ) → map f (rules.changed_at xs n g) ≡ rules.changed_at (map f xs) n h
 map_changed f g h same [] n = refl
@@ -45,6 +40,7 @@ pub thing_is : (es : List (ℕ × Place)) (n : ℕ) → rules.thing_named es n �
 thing_is [] n = refl
 thing_is (e ∷ es) n = ap (λ o. if nat_eq e.0 n then Some e.1 else o) (thing_is es n)
 
+-- the number of a tag in a scope is the one that the rules find in what the scope shows
 pub tag_is : (ts : List Tag) (kind : TagKind) (n : ℕ) → rules.tag_in (map tagged_of ts) kind n ≡ tag_found ts kind n
 tag_is [] kind n = refl
 tag_is (it ∷ ts) kind n = ap (λ o. if rules.is_kind it.kind kind && nat_eq it.tag n then Some it.number else o)
@@ -139,7 +135,8 @@ module _ (t : ℕ → CType) where
       map_changed (aggregate_of t) (aggregates.with_body change)
       (λ it. record it { body = Some (after (rules.or_no_body it.body)) })
       (λ it. ap
-      (λ b. let a : rules.Aggregate = record { kind = it.kind; at = it.at; body = Some b; key = option_map key_of it.key } in a)
+      (λ b. let a : rules.Aggregate =
+      record { kind = it.kind; at = it.at; body = Some b; key = option_map key_of it.key } in a)
       (same (bodies.or_empty it.body) ∙ ap after (sym (some_body it.body)))) all n
 
   -- what one of them is known by is set
@@ -149,7 +146,8 @@ module _ (t : ℕ → CType) where
       (λ it. record it { key = Some (record { kind = it.kind; by_typedef = by_typedef; name = name }) })
   keyed_is by_typedef name all n =
       map_changed (aggregate_of t) (aggregates.with_key by_typedef name)
-      (λ it. record it { key = Some (record { kind = it.kind; by_typedef = by_typedef; name = name }) }) (λ it. refl) all n
+      (λ it. record it { key = Some (record { kind = it.kind; by_typedef = by_typedef; name = name }) })
+      (λ it. refl) all n
 
   pub member_is : (name : ℕ) (at : Place) (ty : ℕ) (b : bodies.OneBody) → body_of t (bodies.with_member name at ty b)
       ≡ rules.with_member name at (t ty) (body_of t b)
@@ -180,5 +178,18 @@ pub last_get : {A : Type 0} (xs : List A) → slice_get xs (length xs - 1) ≡ l
 last_get [] = refl
 last_get (x ∷ xs) = let e : length (x ∷ xs) - 1 ≡ length xs = omega arith in rw e (last_from x xs)
 
-pub ruleset views =
-    (map_more, map_length, map_last, thing_is, tag_is, meaning_is, innermost_is, outer_is, through_is, tag_through_is, first_is, body_is, lying_is)
+pub ruleset views = (
+  map_more,
+  map_length,
+  map_last,
+  thing_is,
+  tag_is,
+  meaning_is,
+  innermost_is,
+  outer_is,
+  through_is,
+  tag_through_is,
+  first_is,
+  body_is,
+  lying_is,
+)

@@ -79,12 +79,14 @@ keyed keys key = shared_there (if key.by_typedef then keys.typedefs else keys.ta
 
 -- a key has this, and the others have theirs
 abbrev pub IsKeyed : Keys → Keys → rules.StructKey → Shared → Type 0
-IsKeyed old new key shared = (other : rules.StructKey) → keyed new other ≡ (if is_same_key key other then Some shared else keyed old other)
+IsKeyed old new key shared =
+    (other : rules.StructKey) → keyed new other ≡ (if is_same_key key other then Some shared else keyed old other)
 
 -- what is known by a key behind one more definition, of this number in this unit
 abbrev pub with_unit : Option Shared → ℕ → ℕ → Shared
 with_unit None number unit = record { first = number; unit = unit; is_elsewhere = false }
-with_unit (Some shared) number unit = record shared { is_elsewhere = shared.is_elsewhere || not (nat_eq shared.unit unit) }
+with_unit (Some shared) number unit =
+    record shared { is_elsewhere = shared.is_elsewhere || not (nat_eq shared.unit unit) }
 
 -- what a definition of a source is known by
 abbrev pub key_held : Aggregate → Option StructKey
@@ -153,7 +155,8 @@ key_members (Some shared) known p = first_known shared.first known p
 -- the place of the member by a definition's number and a name, of structs that are numbered from this number on
 abbrev pub first_own : Keys → ℕ → List Aggregate → Place → Option Place
 first_own keys n [] p = None
-first_own keys n (it ∷ all) p = or_else (own_members (shared_by keys it) n (known_in it.body) p) (first_own keys (suc n) all p)
+first_own keys n (it ∷ all) p =
+    or_else (own_members (shared_by keys it) n (known_in it.body) p) (first_own keys (suc n) all p)
 
 -- the place of the member by the number of the first definition of a key and a name, of all structs
 abbrev pub first_among : Keys → List Aggregate → Place → Option Place
@@ -163,7 +166,8 @@ first_among keys (it ∷ all) p = or_else (key_members (shared_by keys it) (know
 -- the link of a member, by what its struct finds by the name: where that is another member there is none
 abbrev pub link_where : PlaceTable → Shared → Known → Option Place → Option Place
 link_where among shared it None = None
-link_where among shared it (Some found) = if is_place found it.at then member_there among (shared.first, it.name) else None
+link_where among shared it (Some found) =
+    if is_place found it.at then member_there among (shared.first, it.name) else None
 
 -- the link of a member that several sources have, by what its struct finds by the name
 abbrev pub link_in : PlaceTable → PlaceTable → ℕ → Shared → Known → Option Place

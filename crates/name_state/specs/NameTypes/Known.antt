@@ -1,7 +1,7 @@
 -- What is known of numbers of types while their table grows.
 use Rattle.std.specs.Prelude.{◌≡◌, ℕ, ◌<◌, ◌≤◌, List, [], length, slice_get, unwrap_or}
 use Rattle.type_table.specs.declared.row.Shape.{Shape}
-use Rattle.type_table.specs.declared.row.Row.{Row}
+use Rattle.type_table.specs.declared.row.TypeRow.{TypeRow}
 use Rattle.type_table.specs.Types.{Words, CType, base, void, struct}
 use Rattle.type_table.specs.Rows.{shown, type_of, AreParts, Keeps}
 use Rattle.name_rules.specs.Pieces.{bare}
@@ -9,15 +9,15 @@ use Rattle.name_state.specs.declared.name_types.types.SoFar.{SoFar}
 use Rattle.name_state.specs.declared.name_types.types.SoFar.TheVariants as so_fars
 
 -- the types of all numbers, those of a table and of any that it grows to
-abbrev pub Knows : (ℕ → CType) → List Row → Type 0
+abbrev pub Knows : (ℕ → CType) → List TypeRow → Type 0
 Knows t rows = (n : ℕ) → n < length rows → t n ≡ type_of rows n
 
 -- a number has this type, in a table and in any that it grows to
-abbrev pub Is : List Row → ℕ → ((ℕ → CType) → CType) → Type 0
+abbrev pub Is : List TypeRow → ℕ → ((ℕ → CType) → CType) → Type 0
 Is rows ty made = (t : ℕ → CType) → Knows t rows → t ty ≡ made t
 
 -- what was there stays
-pub record Grows (old new : List Row) : Type 0 where
+pub record Grows (old new : List TypeRow) : Type 0 where
   pub keeps : Keeps old new
   pub longer : length old ≤ length new
 
@@ -45,7 +45,7 @@ abbrev pub bare_at : List ℕ → ℕ → ℕ
 bare_at bares n = unwrap_or (slice_get bares n) n
 
 -- the types without annotation words are known, of the first types of a table
-pub record AreBare (rows : List Row) (bares : List ℕ) : Type 0 where
+pub record AreBare (rows : List TypeRow) (bares : List ℕ) : Type 0 where
   pub few : length bares ≤ length rows
   pub low : (n : ℕ) → n < length bares → bare_at bares n < length rows
   pub same : (n : ℕ) → n < length bares → type_of rows (bare_at bares n) ≡ bare (type_of rows n)

@@ -65,34 +65,45 @@ fault_of it = record { at = it.at; rule = rule_of it.rule }
 
 -- by the types of all numbers
 module _ (t : ℕ → CType) where
+  -- what a name means
   abbrev pub meaning_of : Meant → rules.Meaning
   meaning_of (meants.Type ty) = rules.means_type (t ty)
   meaning_of (meants.Thing at) = rules.means_thing at
 
+  -- a name with what it means
   abbrev pub entry_of : ℕ × Meant → ℕ × rules.Meaning
   entry_of it = (it.0, meaning_of it.1)
 
+  -- a scope
   abbrev pub scope_of : OneScope → rules.Scope
   scope_of s = record { names = map entry_of s.names; tags = map tagged_of s.tags }
 
+  -- a declaration at its place
   abbrev pub declared_of : Declared → rules.Declared
   declared_of d = record { at = d.at; role = role_of d.role; first = d.first; type = t d.ty; owner = d.owner }
 
+  -- a member of a struct of its own
   abbrev pub own_of : Own → rules.Own
   own_of it = record { at = it.at; type = t it.ty }
 
+  -- a member that was found
   abbrev pub known_of : Known → rules.Known
   known_of it = record { name = it.name; at = it.at; type = t it.ty; own = it.own }
 
+  -- a function that has a body
   abbrev pub body_of : OneBody → rules.Body
   body_of it = record { own = map own_of it.own; known = map known_of it.known }
 
+  -- a struct or union
   abbrev pub aggregate_of : Aggregate → rules.Aggregate
-  aggregate_of it = record { kind = it.kind; at = it.at; body = option_map body_of it.body; key = option_map key_of it.key }
+  aggregate_of it =
+      record { kind = it.kind; at = it.at; body = option_map body_of it.body; key = option_map key_of it.key }
 
+  -- a type's name at its first token
   abbrev pub type_named_of : TypeNamed → rules.TypeNamed
   type_named_of it = record { at = it.at; type = t it.ty }
 
+  -- all that is known of the names of a unit
   unfoldable pub names_of : Names → rules.Names
   names_of s =
       record {

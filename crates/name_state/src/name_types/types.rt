@@ -37,11 +37,11 @@ pub struct Types {
 
 impl Model for Types {
     ghost use Rattle.std.specs.Prelude.{List, ◌≡◌, ◌<◌, [], length};
-    ghost use Rattle.type_table.specs.declared.row.Row as row;
+    ghost use Rattle.type_table.specs.declared.row.TypeRow as row;
     ghost use Rattle.type_table.specs.Types.{base};
     ghost use Rattle.type_table.specs.Rows.{type_of};
 
-    ghost Value = { List row.Row };
+    ghost Value = { List row.TypeRow };
 
     ghost view = { λ s. s.table };
 

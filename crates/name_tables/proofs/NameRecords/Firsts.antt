@@ -47,6 +47,7 @@ pub use_more : (us new : List NameUse) (u : NameUse) (n : ℕ) (before after : P
     → ((p : Place) → number_at after p ≡ or_else (number_at before p) (there u.at n p)) → AreFirst use_place new after
 use_more us new u n before after first is at added = first_next use_place us new u n before after first is at added
 
+-- one more type's name at the end is the first at its place only where there was none
 type_behind : (ts : List TypeNamed) (t : TypeNamed) (p : Place) →
     first_type (ts ++ t ∷ []) p ≡ or_else (first_type ts p) (there t.at t.ty p)
 type_behind [] t p = refl

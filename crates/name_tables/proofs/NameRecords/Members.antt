@@ -25,12 +25,14 @@ pub comes : (table : MemberTable) (at : Place) (v : Known) (after : MemberTable)
     → member_there after p ≡ or_else (member_there table p) (there at v p)
 comes table at v after unknown set p = adding.comes (member_there table) at v (member_there after) unknown set p
 
+-- the first member of a name in two lists is that of the first, or else that of the second
 named_behind : (xs ys : List Known) (name : ℕ) →
     member_named (xs ++ ys) name ≡ or_else (member_named xs name) (member_named ys name)
 named_behind [] ys name = refl
 named_behind (x ∷ xs) ys name = by (named_behind xs ys name) (nat_eq x.name name) where
   by : member_named (xs ++ ys) name ≡ or_else (member_named xs name) (member_named ys name) → (b : Bool) →
-      (if b then Some x else member_named (xs ++ ys) name) ≡ or_else (if b then Some x else member_named xs name) (member_named ys name)
+      (if b then Some x else member_named (xs ++ ys) name)
+      ≡ or_else (if b then Some x else member_named xs name) (member_named ys name)
   by h true = refl
   by h false = h
 
@@ -57,12 +59,14 @@ own_named m n (k ∷ known) name same =
     by h true = refl
     by h false = h
 
+-- a struct whose body is changed has the members that the change makes of its body
 known_changed : (all : List Aggregate) (n : ℕ) (change : OneBody → OneBody) → n < length all →
     known_at (changed_at all n (with_body change)) n ≡ (change (or_empty (body_at all n))).known
 known_changed [] n change lt = absurd (omega arith)
 known_changed (it ∷ all) zero change lt = refl
 known_changed (it ∷ all) (suc n) change lt = known_changed all n change (omega arith)
 
+-- a change of one struct leaves the members of each other as they are
 known_other : (all : List Aggregate) (n m : ℕ) (change : Aggregate → Aggregate) → (n ≡ m → ⊥) →
     known_at (changed_at all n change) m ≡ known_at all m
 known_other [] n m change other = refl
@@ -71,6 +75,7 @@ known_other (it ∷ all) zero (suc m) change other = refl
 known_other (it ∷ all) (suc n) zero change other = refl
 known_other (it ∷ all) (suc n) (suc m) change other = known_other all n m change (λ e. other (ap suc e))
 
+-- a change that keeps a struct's members leaves those of all structs as they are
 known_kept : (all : List Aggregate) (n m : ℕ) (change : Aggregate → Aggregate) →
     ((it : Aggregate) → (or_empty (change it).body).known ≡ (or_empty it.body).known) →
     known_at (changed_at all n change) m ≡ known_at all m
@@ -80,6 +85,7 @@ known_kept (it ∷ all) zero (suc m) change keeps = refl
 known_kept (it ∷ all) (suc n) zero change keeps = refl
 known_kept (it ∷ all) (suc n) (suc m) change keeps = known_kept all n m change keeps
 
+-- a struct without a body, put behind the others, leaves the members of each number as they are
 known_behind : (all : List Aggregate) (it : Aggregate) (m : ℕ) → it.body ≡ None
     → known_at (all ++ it ∷ []) m ≡ known_at all m
 known_behind [] it zero none = ap (λ (b : Option OneBody). (or_empty b).known) none

@@ -57,9 +57,11 @@ module _ (xs : List OneScope) (len : ℕ) (s w : OneScope) (whole : len ≡ leng
     tabled_tag k tag number new made more = record {
       named = names_there ∙ ap (λ (x : OneScope). x.names ∷ names_of there.0) (sym made) ∙ ap names_of (sym there.2);
       tagged = λ kind. more kind
-          ∙ ap (λ ts. if is_kind k kind then ((tag, number) ∷ lists.innermost ts) ∷ lists.outer_scopes ts else ts) (tags_there kind)
+          ∙ ap (λ ts. if is_kind k kind then ((tag, number) ∷ lists.innermost ts) ∷ lists.outer_scopes ts else ts)
+          (tags_there kind)
           ∙ by_test (is_kind k kind) (in_kind kind s.tags) (tags_of kind there.0)
-          ∙ ap (λ (x : OneScope). in_kind kind x.tags ∷ tags_of kind there.0) (sym made) ∙ ap (tags_of kind) (sym there.2);
+          ∙ ap (λ (x : OneScope). in_kind kind x.tags ∷ tags_of kind there.0) (sym made)
+          ∙ ap (tags_of kind) (sym there.2);
     }
       where
         by_test : (b : Bool) (ts : List (ℕ × ℕ)) (outer : List (List (ℕ × ℕ)))

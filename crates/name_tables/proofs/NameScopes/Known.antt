@@ -26,6 +26,7 @@ meant_known (scope ∷ outer) n = by_meant (lists.newest scope.names n) (meant_k
     by_meant None rest = rest
     by_meant (Some meant) rest = refl
 
+-- the newest of a scope's tags of a kind is the one that the scope finds by kind and name
 tag_in : (tags : List Tag) (kind : TagKind) (n : ℕ) → lists.newest (in_kind kind tags) n ≡ tag_found tags kind n
 tag_in [] kind n = refl
 tag_in (it ∷ tags) kind n = by_tests (is_kind it.kind kind) (eqb it.tag n) refl (tag_in tags kind n)
@@ -42,6 +43,7 @@ pub tag_here : (scopes : List OneScope) (kind : TagKind) (n : ℕ)
 tag_here [] kind n = refl
 tag_here (scope ∷ outer) kind n = tag_in scope.tags kind n
 
+-- the newest of the tags of a kind through all scopes is the one that they find by kind and name
 pub tag_known : (scopes : List OneScope) (kind : TagKind) (n : ℕ)
     → lists.newest_through (tags_of kind scopes) n ≡ tag_through scopes kind n
 tag_known [] kind n = refl

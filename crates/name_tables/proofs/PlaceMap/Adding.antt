@@ -1,20 +1,9 @@
 -- What is added where a place has nothing.
-use Rattle.std.proofs.Common.{◌≡◌, Bool, true, false, ◌&&◌, nat_eq, Option, Some, None, is_some, inl, inr, refl, sym, ◌∙◌, ap, if◌then◌else◌}
-use Rattle.std.proofs.lemmas.Bool.Decides.{eqb_tells}
+use Rattle.std.proofs.Common.{◌≡◌, Bool, true, false, Option, Some, None, is_some, refl, sym, ◌∙◌, ap, if◌then◌else◌}
 use Rattle.name_rules.specs.Spellings.{Place}
 use Rattle.name_rules.specs.Scopes.{is_place}
+use Rattle.name_rules.proofs.MeaningLaws.Lists.{place_is}
 use Rattle.name_tables.specs.PlaceMap.Values.{or_else, there}
-
-pub same_place : (p q : Place) → is_place p q ≡ true → p ≡ q
-same_place p q is = elim (eqb_tells p.0 q.0) [
-  | inl a ↦ elim (eqb_tells p.1 q.1) [
-    | inl b ↦ ap (λ x. let r : Place = (x, p.1) in r) a.1 ∙ ap (λ y. let r : Place = (q.0, y) in r) b.1
-    | inr b ↦ absurd
-        (let no : true && false ≡ true = ap (λ x. true && x) (sym b.0) ∙ ap (λ x. x && nat_eq p.1 q.1) (sym a.0)
-        ∙ is in cc)
-  ]
-  | inr a ↦ absurd (let no : false ≡ true = ap (λ x. x && nat_eq p.1 q.1) (sym a.0) ∙ is in cc)
-]
 
 pub or_none : {V : Type 0} (o : Option V) → or_else o None ≡ o
 or_none None = refl
@@ -40,7 +29,7 @@ module _ {V : Type 0} (before : Place → Option V) (at : Place) (v : V) where
       by_test : (b : Bool) → is_place at p ≡ b → before p ≡ or_else (before p) (if b then Some v else None)
       by_test false is = sym (or_none (before p))
       by_test true is =
-          sym (or_known (before p) (Some v) (ap (λ (q : Place). is_some (before q)) (sym (same_place at p is)) ∙ known))
+          sym (or_known (before p) (Some v) (ap (λ (q : Place). is_some (before q)) (sym (place_is at p is)) ∙ known))
 
   -- another gets this
   pub comes : (after : Place → Option V) → is_some (before at) ≡ false
@@ -52,4 +41,4 @@ module _ {V : Type 0} (before : Place → Option V) (at : Place) (v : V) where
           → (if b then Some v else before p) ≡ or_else (before p) (if b then Some v else None)
       by_test false is = sym (or_none (before p))
       by_test true is =
-          sym (or_new (before p) (Some v) (ap (λ (q : Place). is_some (before q)) (sym (same_place at p is)) ∙ unknown))
+          sym (or_new (before p) (Some v) (ap (λ (q : Place). is_some (before q)) (sym (place_is at p is)) ∙ unknown))

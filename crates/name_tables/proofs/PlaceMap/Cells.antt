@@ -1,9 +1,11 @@
 -- Rows that grow, and numbers that are written in them.
 use Rattle.std.proofs.Common.{◌≡◌, ℕ, zero, suc, ◌<◌, ◌≤◌, arith, Bool, true, false, nat_eq, List, [], ◌∷◌, ◌++◌, length, replicate, slice_get, slice_set, take, Some, inl, inr, refl, sym, ◌∙◌, ap, if◌then◌else◌}
 use Rattle.std.proofs.lemmas.Bool.Decides.{eqb_tells}
+use Rattle.qual_base.proofs.Lists.{take_whole}
 use Rattle.name_rules.specs.Spellings.{Place}
 use Rattle.name_tables.specs.PlaceMap.Values.{or_zero, cell_in, or_empty, cell_at}
 
+-- a row of zeros is zero everywhere, past its end too
 zeros : (k n : ℕ) → or_zero (slice_get (replicate k 0) n) ≡ 0
 zeros zero n = refl
 zeros (suc k) zero = refl
@@ -15,23 +17,19 @@ more_zeros [] k n = zeros k n
 more_zeros (c ∷ row) k zero = refl
 more_zeros (c ∷ row) k (suc n) = more_zeros row k n
 
-take_whole : {A : Type 0} (xs : List A) (n : ℕ) → length xs ≤ n → take n xs ≡ xs
-take_whole [] zero le = refl
-take_whole [] (suc n) le = refl
-take_whole (x ∷ xs) zero le = absurd (omega arith)
-take_whole (x ∷ xs) (suc n) le = ap (λ ys. x ∷ ys) (take_whole xs n (omega arith))
-
 -- a row that goes on to more tokens
 pub grown : (old new : List ℕ) (count k : ℕ) → length old ≤ count → new ≡ take count old ++ replicate k 0 → (n : ℕ)
     → cell_in new n ≡ cell_in old n
 grown old new count k le is n =
     ap (λ row. cell_in row n) (is ∙ ap (λ row. row ++ replicate k 0) (take_whole old count le)) ∙ more_zeros old k n
 
+-- an item set within a list is got there
 get_same : {A : Type 0} (xs : List A) (n : ℕ) (x : A) → n < length xs → slice_get (slice_set xs n x) n ≡ Some x
 get_same [] n x lt = absurd (omega arith)
 get_same (y ∷ xs) zero x lt = refl
 get_same (y ∷ xs) (suc n) x lt = get_same xs n x (omega arith)
 
+-- an item set at one number changes none at another
 get_other : {A : Type 0} (xs : List A) (n : ℕ) (x : A) (m : ℕ) → (n ≡ m → ⊥)
     → slice_get (slice_set xs n x) m ≡ slice_get xs m
 get_other [] n x m other = refl

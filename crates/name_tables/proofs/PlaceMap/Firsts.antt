@@ -29,7 +29,8 @@ module _ {A : Type 0} (place : A → Place) where
   item_is (x ∷ xs) p = by_test (is_place (place x) p) (item_is xs p)
     where
       by_test : (b : Bool) → item_of xs (first_from place 0 xs p) ≡ first_item place xs p
-          → item_of (x ∷ xs) (if b then Some 0 else first_from place 1 xs p) ≡ (if b then Some x else first_item place xs p)
+          → item_of (x ∷ xs) (if b then Some 0 else first_from place 1 xs p)
+          ≡ (if b then Some x else first_item place xs p)
       by_test true is = refl
       by_test false is = ap (item_of (x ∷ xs)) (next_from 0 xs p) ∙ item_behind x xs (first_from place 0 xs p) ∙ is
 
@@ -57,7 +58,8 @@ module _ {A : Type 0} (place : A → Place) where
   first_next xs new x n before after first is at added = record {
     same = λ p. added p
         ∙ ap (λ (o : Option ℕ). or_else o (there (place x) n p)) (first.same p)
-        ∙ ap (λ (k : ℕ). or_else (first_from place 0 xs p) (there (place x) k p)) (let e : n ≡ 0 + length xs = omega arith in e)
+        ∙ ap (λ (k : ℕ). or_else (first_from place 0 xs p) (there (place x) k p))
+        (let e : n ≡ 0 + length xs = omega arith in e)
         ∙ sym (first_append 0 xs x p) ∙ ap (λ (l : List A). first_from place 0 l p) (sym is);
   }
 

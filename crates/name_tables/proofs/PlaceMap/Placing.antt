@@ -1,17 +1,12 @@
 -- Numbers that are set at places.
-use Rattle.std.proofs.Common.{◌≡◌, ℕ, zero, suc, ◌+◌, ◌<◌, arith, Bool, true, false, ◌&&◌, nat_eq, List, [], ◌∷◌, length, slice_get, slice_index_or, slice_set, Option, Some, inl, inr, refl, sym, ◌∙◌, ap, if◌then◌else◌}
-use Rattle.std.proofs.lemmas.Bool.Decides.{eqb_tells}
+use Rattle.std.proofs.Common.{◌≡◌, ℕ, zero, suc, ◌+◌, ◌<◌, arith, Bool, true, false, ◌&&◌, nat_eq, List, [], ◌∷◌, length, slice_get, slice_index_or, slice_set, Option, Some, refl, sym, ◌∙◌, ap, if◌then◌else◌}
+use Rattle.qual_base.proofs.Tests.{eq_is}
 use Rattle.name_rules.specs.Spellings.{Place}
 use Rattle.name_rules.specs.Scopes.{is_place}
 use Rattle.name_tables.specs.PlaceMap.Values.{cell_in, or_empty, cell_at, number_of}
 use Rattle.name_tables.proofs.PlaceMap.Cells.{get_set}
 
-is_same : (m n : ℕ) → nat_eq m n ≡ true → m ≡ n
-is_same m n is = elim (eqb_tells m n) [
-  | inl a ↦ a.1
-  | inr b ↦ absurd (let no : false ≡ true = sym b.0 ∙ is in cc)
-]
-
+-- a number within a list has the item that is got there
 there_at : {A : Type 0} (xs : List A) (n : ℕ) (x : A) → n < length xs → x ≡ slice_index_or xs n x
     → slice_get xs n ≡ Some x
 there_at [] n x lt is = absurd (omega arith)
@@ -35,14 +30,15 @@ same_row before units u n row after same lt e is kept p =
     by_unit true unit within =
         ap number_of
         (kept p.1 ∙ ap (λ (o : Option (List ℕ)). cell_in (or_empty o) p.1)
-        (sym (there_at units n row within is) ∙ ap (λ (v : ℕ). slice_get units v) (is_same n p.0 unit)) ∙ same p)
+        (sym (there_at units n row within is) ∙ ap (λ (v : ℕ). slice_get units v) (eq_is n p.0 unit)) ∙ same p)
 
 -- one token of one unit gets a number
 pub numbered : (before units : List (List ℕ)) (at : Place) (n : ℕ) (row after : List ℕ) (number cell : ℕ)
     → ((p : Place) → cell_at units p ≡ cell_at before p) → at.0 < length units → n ≡ at.0
     → row ≡ slice_index_or units n row
     → ((k : ℕ) → cell_in after k ≡ (if nat_eq at.1 k then cell else cell_in row k)) → cell ≡ number + 1 → (p : Place)
-    → number_of (cell_at (slice_set units n after) p) ≡ (if is_place at p then Some number else number_of (cell_at before p))
+    → number_of (cell_at (slice_set units n after) p)
+    ≡ (if is_place at p then Some number else number_of (cell_at before p))
 numbered before units at n row after number cell same lt e is written more p =
     ap (λ (u : ℕ). number_of (cell_at (slice_set units u after) p)) e
     ∙ ap (λ (o : Option (List ℕ)). number_of (cell_in (or_empty o) p.1)) (get_set units at.0 after lt p.0)
@@ -63,5 +59,5 @@ numbered before units at n row after number cell same lt e is written more p =
     by_unit true unit =
         let here : cell_in row p.1 ≡ cell_at before p =
         ap (λ (o : Option (List ℕ)). cell_in (or_empty o) p.1)
-        (sym there ∙ ap (λ (u : ℕ). slice_get units u) (is_same at.0 p.0 unit)) ∙ same p in
+        (sym there ∙ ap (λ (u : ℕ). slice_get units u) (eq_is at.0 p.0 unit)) ∙ same p in
         ap number_of (written p.1) ∙ by_token (nat_eq at.1 p.1) here

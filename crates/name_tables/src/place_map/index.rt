@@ -4,7 +4,7 @@ ghost use Rattle.std.specs.Prelude.{◌≡◌, ◌<◌, ℕ, None, length, OnOk,
 ghost use Rattle.name_rules.specs.Spellings.{Place};
 ghost use Rattle.name_tables.specs.PlaceMap.Values.{cell_at, number_of, number_at, or_else, there, IsNumbered, AreAsBefore};
 
-use crate::place_map::row::Row;
+use crate::place_map::row::UnitRow;
 use qual_base::{NoMemory, Numbered, TokenId, UnitNo};
 use std::alloc::Global;
 
@@ -16,7 +16,7 @@ use std::alloc::Global;
 #[derive(Drop)]
 pub struct PlaceIndex {
     alloc: Global,
-    units: Vec<Row>,
+    units: Vec<UnitRow>,
 }
 
 /// A number that is written as one more; none where that is 0.
@@ -56,7 +56,7 @@ impl PlaceIndex {
     {
         let last = unit.number() as usize;
         while self.units.len() <= last {
-            match self.units.push(Row::new(self.alloc)) {
+            match self.units.push(UnitRow::new(self.alloc)) {
                 Ok(()) => {}
                 Err(_) => return Err(NoMemory),
             }

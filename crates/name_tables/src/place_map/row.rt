@@ -10,11 +10,11 @@ use std::marker::Model;
 /// A number at each token of a unit up to the last one that has any, and 0 at those behind it. Clauses see the list of numbers.
 /// Memory is four bytes a token.
 #[derive(Drop)]
-pub(crate) struct Row {
+pub(crate) struct UnitRow {
     cells: Vec<u32>,
 }
 
-impl Model for Row {
+impl Model for UnitRow {
     ghost use Rattle.std.specs.Prelude.{List, ℕ};
 
     ghost Value = { List ℕ };
@@ -22,12 +22,12 @@ impl Model for Row {
     ghost view = { λ s. s.cells.items };
 }
 
-impl Row {
+impl UnitRow {
     /// No numbers. Takes no memory.
     pub(crate) fn new(alloc: Global) -> Self
         ensures { result ≡ [] }
     {
-        Row {
+        UnitRow {
             cells: Vec::new(alloc),
         }
     }

@@ -89,7 +89,8 @@ module _ (lattices : List LatticeView) where
       IsElement lattices n e → e < size view.order
   below_size n e view sized there it =
       let same : it.view ≡ view = cc in
-      subst (λ (m : ℕ). e < m) (sym (sized n view there)) (subst (λ (v : LatticeView). e < length v.entries) same it.within)
+      subst (λ (m : ℕ). e < m) (sym (sized n view there))
+      (subst (λ (v : LatticeView). e < length v.entries) same it.within)
 
   pub system_named : (sys : System) → AreSized lattices → AllNamed sys.constraints → AreNamed lattices sys
   system_named sys sized h n view there = record {

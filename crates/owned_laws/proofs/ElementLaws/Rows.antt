@@ -196,7 +196,8 @@ module _ (law : Flows) (w : World) where
   -- what passes inside a skeleton
 
   some_named : (lattices : ℕ) (where_ : Span) (u v : ℕ) → Named (in_some lattices where_ (Le u v))
-  some_named lattices where_ u v = none_where w.lattices (nat_eq lattices 0) (constraint lattices where_ (Le u v) ∷ []) (tt, tt)
+  some_named lattices where_ u v =
+      none_where w.lattices (nat_eq lattices 0) (constraint lattices where_ (Le u v) ∷ []) (tt, tt)
 
   into_members_named : (ways : Ways) (skeletons : List Numbered) (where_ : Span) (n : ℕ) (own : List Own) →
       Named (into_members ways skeletons where_ n own)
@@ -204,13 +205,15 @@ module _ (law : Flows) (w : World) where
   into_members_named ways skeletons where_ n (it ∷ own) =
       let s = skeleton_among skeletons it.at in
       lists_named w.lattices (into_member ways where_ n s) (into_members ways skeletons where_ n own)
-      (none_where w.lattices (is_nothing s) (in_some ways.field where_ (Le n (root (contents s)))) (some_named ways.field where_ n (root (contents s))))
+      (none_where w.lattices (is_nothing s) (in_some ways.field where_ (Le n (root (contents s))))
+      (some_named ways.field where_ n (root (contents s))))
       (into_members_named ways skeletons where_ n own)
 
   mutual
     formed_in_named : (ways : Ways) (skeletons : List Numbered) (all : List Aggregate) (where_ : Span) (s : Skel) →
         Named (formed_in ways skeletons all where_ s)
-    formed_in_named ways skeletons all where_ (flat v (kinds.Struct n)) = into_members_named ways skeletons where_ v (own_of all n)
+    formed_in_named ways skeletons all where_ (flat v (kinds.Struct n)) =
+        into_members_named ways skeletons where_ v (own_of all n)
     formed_in_named ways skeletons all where_ (flat v kinds.Base) = tt
     formed_in_named ways skeletons all where_ (flat v kinds.Void) = tt
     formed_in_named ways skeletons all where_ (flat v kinds.Nothing) = tt
@@ -223,7 +226,8 @@ module _ (law : Flows) (w : World) where
         lists_named w.lattices (all_formed_in ways skeletons all where_ ps) (formed_in ways skeletons all where_ r)
         (all_formed_in_named ways skeletons all where_ ps) (formed_in_named ways skeletons all where_ r)
 
-    all_formed_in_named : (ways : Ways) (skeletons : List Numbered) (all : List Aggregate) (where_ : Span) (ps : Skels) →
+    all_formed_in_named : (ways : Ways) (skeletons : List Numbered) (all : List Aggregate) (where_ : Span)
+        (ps : Skels) →
         Named (all_formed_in ways skeletons all where_ ps)
     all_formed_in_named ways skeletons all where_ no_skels = tt
     all_formed_in_named ways skeletons all where_ (more_skels s ss) =
@@ -254,7 +258,8 @@ module _ (law : Flows) (w : World) where
 
   pub index_named : (a b : Skel) (aims : Bool) (where_ : Span) → Named (index_demand w a b aims where_)
   index_named a b aims where_ =
-      none_where w.lattices (is_vector_index w.spelling.wide a b) (dereferenced w (if is_ref a then a else b) aims where_)
+      none_where w.lattices (is_vector_index w.spelling.wide a b)
+      (dereferenced w (if is_ref a then a else b) aims where_)
       (dereferenced_named (if is_ref a then a else b) aims where_)
 
   -- a pointer that carries another one names no element for that
@@ -377,7 +382,8 @@ module _ (law : Flows) (w : World) where
   param_named : (f : Skel) (n : ℕ) (d : Option Declared) → Named (param_row w f n d)
   param_named f n None = tt
   param_named f n (Some d) =
-      lists_named w.lattices (formed_name w d) (plain_param_row w f n d) (formed_named (word_span d.at) (skeleton w d.at))
+      lists_named w.lattices (formed_name w d) (plain_param_row w f n d)
+      (formed_named (word_span d.at) (skeleton w d.at))
       (lists_named w.lattices (annotating_name w d) (into_param w (param_at (parameters f) n) d)
       (annotating_named (pointer [] d.type) (skeleton w d.at)) (into_param_named (param_at (parameters f) n) d))
 

@@ -86,7 +86,8 @@ module _ (law : Flows) (w : World) where
   form_named st (forms.Sizeof token) = tt
   form_named st (forms.StmtExpr has_value token) = tt
   form_named st (forms.VaArg token last) =
-      lists_named w.lattices (formed w (span w token last) (own w token)) _ (formed_named law w (span w token last) (own w token))
+      lists_named w.lattices (formed w (span w token last) (own w token)) _
+      (formed_named law w (span w token last) (own w token))
       (lists_named w.lattices (annotating_some w (type_at 0 st) (own w token)) _
       (annotating_some_named law w (type_at 0 st) (own w token))
       (taken_named law w (value_at 1 st) (own w token) (span w token last)))
@@ -111,8 +112,10 @@ module _ (law : Flows) (w : World) where
   init_named st inits.Begin = tt
   init_named st inits.Rule = tt
   init_named st (inits.Literal token) =
-      lists_named w.lattices (formed_here w token) (annotating_place w (type_of_operand (first_operand (operands_below st))) (own w token))
-      (formed_here_named law w token) (annotating_place_named law w (type_of_operand (first_operand (operands_below st))) (own w token))
+      lists_named w.lattices (formed_here w token)
+      (annotating_place w (type_of_operand (first_operand (operands_below st))) (own w token))
+      (formed_here_named law w token)
+      (annotating_place_named law w (type_of_operand (first_operand (operands_below st))) (own w token))
   init_named st inits.ListBegin = tt
   init_named st (inits.Member token name) = tt
   init_named st (inits.Index token) = tt
@@ -166,7 +169,8 @@ module _ (law : Flows) (w : World) where
   tape_named [] st = tt
   tape_named (op ∷ tape) st =
       lists_named w.lattices (op_row w st op) (rows_found w (step w st op) tape)
-      (none_where w.lattices (is_quiet st.rounds) (loud_row w st op) (loud_named st op)) (tape_named tape (step w st op))
+      (none_where w.lattices (is_quiet st.rounds) (loud_row w st op) (loud_named st op))
+      (tape_named tape (step w st op))
 
 -- the constants and bounds of all units of a program name elements of its lattices
 units_named : Flows → (p : Program) (sources : List Source) → AllNamed p.lattices (rows_among p sources)
@@ -177,8 +181,10 @@ units_named law p (it ∷ sources) =
 
 pub elements_are_named : Flows → ConstraintsAreFound → ElementsAreNamed
 elements_are_named law found p sound sized =
-    system_named p.lattices (system_of p) sized (subst (AllNamed p.lattices) (found p sound) (units_named law p p.sources))
+    system_named p.lattices (system_of p) sized
+    (subst (AllNamed p.lattices) (found p sound) (units_named law p p.sources))
 
 pub lattices_are_named : Flows → ConstraintsAreFound → LatticesAreNamed
 lattices_are_named law found p sound sized =
-    lattices_named p.lattices (system_of p) sized (subst (AllNamed p.lattices) (found p sound) (units_named law p p.sources))
+    lattices_named p.lattices (system_of p) sized
+    (subst (AllNamed p.lattices) (found p sound) (units_named law p p.sources))

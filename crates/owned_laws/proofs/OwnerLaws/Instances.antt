@@ -7,6 +7,7 @@ use Rattle.qual_types.specs.Skel.{Skel}
 use Rattle.flow_rules.specs.Lists.{cross}
 use Rattle.name_rules.specs.Spellings.{Place}
 use Rattle.name_rules.specs.Scopes.{is_place}
+use Rattle.name_rules.proofs.MeaningLaws.Lists.{place_is}
 use Rattle.row_rules.specs.Starting.{Start}
 use Rattle.row_rules.specs.Worlds.{World, Numbered, at, span, all_lattices, numbered_from, number_among, skeleton_among, constraints}
 use Rattle.row_rules.specs.Sites.{owner_by, site_places}
@@ -14,7 +15,6 @@ use Rattle.row_rules.specs.Rows.{crossed}
 use Rattle.owned_laws.specs.OwnerLaws.Laws.{skeleton_of, Leads, CallsLead}
 use Rattle.owned_laws.specs.OwnerLaws.Fitting.{AllFit, start_at}
 use Rattle.owned_laws.specs.OwnerLaws.Rows.{system_with, KnowsStarts, InstancesFit}
-use Rattle.owned_laws.proofs.OwnerLaws.Sites.{place_is}
 use Rattle.owned_laws.proofs.OwnerLaws.Fitting.{leading_fits, found_at}
 
 -- what begins first at a place begins there

@@ -1,6 +1,7 @@
 -- The constraints of each form fit where the skeletons of its parts belong to one owner or to nobody.
 use Rattle.std.proofs.Common.{◌≡◌, ◌⊎◌, inl, inr, ℕ, suc, Bool, true, false, List, [], ◌∷◌, ◌++◌, Option, None, Some, refl}
 use Rattle.std.specs.Prelude.{◌&&◌, ◌||◌, ◌^◌, nat_eq, slice_get, if◌then◌else◌}
+use Rattle.std.proofs.lemmas.Bool.{or_right, or_left}
 use Rattle.c_words.specs.declared.kinds.Punct.{Punct}
 use Rattle.c_words.specs.declared.kinds.Punct.TheVariants as signs
 use Rattle.qual_base.specs.declared.places.Owner.{Owner}
@@ -63,14 +64,6 @@ either_true true b c h = refl
 either_true false true c h = refl
 either_true false false c (inl e) = absurd cc
 either_true false false c (inr e) = e
-
-first_true : (a b : Bool) → a ≡ true → (a || b) ≡ true
-first_true true b e = refl
-first_true false b e = absurd cc
-
-last_true : (a b : Bool) → b ≡ true → (a || b) ≡ true
-last_true true b e = refl
-last_true false b e = e
 
 -- the parts of a skeleton of nothing are inside any owner
 parts_of_nothing : (sys : System) (owner : Owner) (s : Skel) → is_nothing s ≡ true → PartsInside sys owner s
@@ -194,12 +187,14 @@ module _ (law : Flows) (sys : System) (owner : Owner) (w : World) where
   some_fit : (lattices : ℕ) (where_ : Span) (u v : ℕ) → IsIn (owner_of sys) owner u → IsIn (owner_of sys) owner v →
       AllFit sys (in_some lattices where_ (Le u v))
   some_fit lattices where_ u v h k =
-      none_where sys (nat_eq lattices 0) (constraint lattices where_ (Le u v) ∷ []) (record { owner = owner; from = h; to = k }, tt)
+      none_where sys (nat_eq lattices 0) (constraint lattices where_ (Le u v) ∷ [])
+      (record { owner = owner; from = h; to = k }, tt)
 
   into_member_fits : (ways : Ways) (where_ : Span) (n : ℕ) (s : Skel) → IsIn (owner_of sys) owner n
       → Inside sys Nobody s →
       AllFit sys (into_member ways where_ n s)
-  into_member_fits ways where_ n s h (inl e) = none_or sys (is_nothing s) (in_some ways.field where_ (Le n (root (contents s)))) (inl e)
+  into_member_fits ways where_ n s h (inl e) =
+      none_or sys (is_nothing s) (in_some ways.field where_ (Le n (root (contents s)))) (inl e)
   into_member_fits ways where_ n s h (inr k) =
       none_where sys (is_nothing s) (in_some ways.field where_ (Le n (root (contents s))))
       (some_fit ways.field where_ n (root (contents s)) h (nobodys_in (root (contents s))
@@ -218,7 +213,8 @@ module _ (law : Flows) (sys : System) (owner : Owner) (w : World) where
     formed_in_fits : (ways : Ways) (where_ : Span) (s : Skel) → MembersInside sys w
         → AllIn (owner_of sys) owner (nodes s) →
         AllFit sys (formed_in ways w.skeletons w.names.aggregates where_ s)
-    formed_in_fits ways where_ (flat v (kinds.Struct n)) m h = into_members_fit ways where_ v (own_of w.names.aggregates n) h.0 (m n)
+    formed_in_fits ways where_ (flat v (kinds.Struct n)) m h =
+        into_members_fit ways where_ v (own_of w.names.aggregates n) h.0 (m n)
     formed_in_fits ways where_ (flat v kinds.Base) m h = tt
     formed_in_fits ways where_ (flat v kinds.Void) m h = tt
     formed_in_fits ways where_ (flat v kinds.Nothing) m h = tt
@@ -229,16 +225,20 @@ module _ (law : Flows) (sys : System) (owner : Owner) (w : World) where
         (some_fit ways.up where_ (root s) v inside h.0) (some_fit ways.down where_ v (root s) h.0 inside))
         (formed_in_fits ways where_ s m h.1)
     formed_in_fits ways where_ (fun v ps r e) m h =
-        lists_fit sys (all_formed_in ways w.skeletons w.names.aggregates where_ ps) (formed_in ways w.skeletons w.names.aggregates where_ r)
+        lists_fit sys (all_formed_in ways w.skeletons w.names.aggregates where_ ps)
+        (formed_in ways w.skeletons w.names.aggregates where_ r)
         (all_formed_in_fit ways where_ ps m (front (owner_of sys) owner (all_nodes ps) (nodes r ++ of_some e) h.1))
         (formed_in_fits ways where_ r m
-        (front (owner_of sys) owner (nodes r) (of_some e) (back (owner_of sys) owner (all_nodes ps) (nodes r ++ of_some e) h.1)))
+        (front (owner_of sys) owner (nodes r) (of_some e)
+        (back (owner_of sys) owner (all_nodes ps) (nodes r ++ of_some e) h.1)))
 
     all_formed_in_fit : (ways : Ways) (where_ : Span) (ps : Skels) → MembersInside sys w →
-        AllIn (owner_of sys) owner (all_nodes ps) → AllFit sys (all_formed_in ways w.skeletons w.names.aggregates where_ ps)
+        AllIn (owner_of sys) owner (all_nodes ps)
+        → AllFit sys (all_formed_in ways w.skeletons w.names.aggregates where_ ps)
     all_formed_in_fit ways where_ no_skels m h = tt
     all_formed_in_fit ways where_ (more_skels s ss) m h =
-        lists_fit sys (formed_in ways w.skeletons w.names.aggregates where_ s) (all_formed_in ways w.skeletons w.names.aggregates where_ ss)
+        lists_fit sys (formed_in ways w.skeletons w.names.aggregates where_ s)
+        (all_formed_in ways w.skeletons w.names.aggregates where_ ss)
         (formed_in_fits ways where_ s m (front (owner_of sys) owner (nodes s) (all_nodes ss) h))
         (all_formed_in_fit ways where_ ss m (back (owner_of sys) owner (nodes s) (all_nodes ss) h))
 
@@ -268,8 +268,8 @@ module _ (law : Flows) (sys : System) (owner : Owner) (w : World) where
     where
       by : Inside sys owner point → Inside sys owner t → ((is_nothing point || is_nothing t) ≡ true)
           ⊎ AllFit sys (constraint (access_lattices w.lattices) where_ (Le (root point) (root t)) ∷ [])
-      by (inl e) k = inl (first_true (is_nothing point) (is_nothing t) e)
-      by (inr h) (inl e) = inl (last_true (is_nothing point) (is_nothing t) e)
+      by (inl e) k = inl (or_left (is_nothing point) (is_nothing t) e)
+      by (inr h) (inl e) = inl (or_right (is_nothing point) (is_nothing t) e)
       by (inr h) (inr k) =
           inr (
             record {
@@ -328,7 +328,7 @@ module _ (law : Flows) (sys : System) (owner : Owner) (w : World) where
     where
       by : Inside sys owner a →
           ((zero || is_empty a) ≡ true) ⊎ AllFit sys (constraints (all_lattices w) where_ (smash a e))
-      by (inl is) = inl (last_true zero (is_empty a) (nothing_is_empty a is))
+      by (inl is) = inl (or_right zero (is_empty a) (nothing_is_empty a is))
       by (inr h) =
           inr (staying_fits sys owner (all_lattices w) where_ (smash a e) (law.smashed (owner_of sys) owner a e h l))
 
@@ -402,14 +402,14 @@ module _ (law : Flows) (sys : System) (owner : Owner) (w : World) where
       placed : Inside sys owner t →
           ((is_some_function (declared_at w.names.declared d.first) || is_nothing t) ≡ true)
           ⊎ AllFit sys (constraints (all_lattices w) (word_span d.at) (flow Flow true s t))
-      placed (inl e) = inl (last_true (is_some_function (declared_at w.names.declared d.first)) (is_nothing t) e)
+      placed (inl e) = inl (or_right (is_some_function (declared_at w.names.declared d.first)) (is_nothing t) e)
       placed (inr k) =
           inr (staying_fits sys owner (all_lattices w) (word_span d.at) (flow Flow true s t)
           (law.stay (owner_of sys) owner s t (h s refl) k))
 
       by : HasPlace d → ((is_some_function (declared_at w.names.declared d.first) || is_nothing t) ≡ true)
           ⊎ AllFit sys (constraints (all_lattices w) (word_span d.at) (flow Flow true s t))
-      by (inl e) = inl (first_true (is_some_function (declared_at w.names.declared d.first)) (is_nothing t) e)
+      by (inl e) = inl (or_left (is_some_function (declared_at w.names.declared d.first)) (is_nothing t) e)
       by (inr k) = placed (parts_inside sys owner (skeleton w d.at) k).contents_in
 
   -- parameters of what is no skeleton are none
@@ -453,12 +453,13 @@ module _ (law : Flows) (sys : System) (owner : Owner) (w : World) where
   taken_fits : (list t : Skel) (where_ : Span) → Inside sys owner list → Inside sys owner t →
       AllFit sys (taken w list t where_)
   taken_fits list t where_ h k =
-      none_or sys (is_nothing list || is_nothing t) (constraints (all_lattices w) where_ (unsmash (root list) t)) (by h k)
+      none_or sys (is_nothing list || is_nothing t)
+      (constraints (all_lattices w) where_ (unsmash (root list) t)) (by h k)
     where
       by : Inside sys owner list → Inside sys owner t → ((is_nothing list || is_nothing t) ≡ true)
           ⊎ AllFit sys (constraints (all_lattices w) where_ (unsmash (root list) t))
       by (inl e) k = inl (either_true false (is_nothing list) (is_nothing t) (inl e))
-      by (inr h) (inl e) = inl (last_true (is_nothing list) (is_nothing t) e)
+      by (inr h) (inl e) = inl (or_right (is_nothing list) (is_nothing t) e)
       by (inr h) (inr k) =
           inr (staying_fits sys owner (all_lattices w) where_ (unsmash (root list) t)
           (law.unsmashed (owner_of sys) owner (root list) t (root_in (owner_of sys) owner list h) k))

@@ -1,7 +1,7 @@
 -- Each instance of a function is the site of its number, where no two are at one place.
-use Rattle.std.proofs.Common.{◌≡◌, ℕ, zero, suc, ◌+◌, ◌<◌, Bool, true, false, Contains, List, [], ◌∷◌, ◌++◌, length, Option, None, Some, nat_eq, refl, ◌∙◌, ap, subst, arith}
+use Rattle.std.proofs.Common.{◌≡◌, ℕ, zero, suc, ◌+◌, ◌<◌, Bool, true, false, Contains, List, [], ◌∷◌, ◌++◌, length, Option, None, Some, refl, ◌∙◌, ap, subst, arith}
 use Rattle.std.specs.Prelude.{if◌then◌else◌, slice_get}
-use Rattle.std.proofs.lemmas.Bool.{and_parts, eq-eqb, eqb-true}
+use Rattle.std.proofs.lemmas.Bool.{eq-eqb}
 use Rattle.qual_base.specs.declared.places.Owner.{Owner}
 use Rattle.qual_base.specs.declared.places.Owner.TheVariants.{Function}
 use Rattle.flow_graph.specs.declared.constraint.Site.{Site}
@@ -11,6 +11,7 @@ use Rattle.flow_rules.specs.Lists.{cross}
 use Rattle.flow_rules.specs.Owners.{AllOwned, AllLead}
 use Rattle.name_rules.specs.Spellings.{Place}
 use Rattle.name_rules.specs.Scopes.{is_place}
+use Rattle.name_rules.proofs.MeaningLaws.Lists.{place_is}
 use Rattle.row_rules.specs.Starting.{Start}
 use Rattle.row_rules.specs.Worlds.{Numbered, numbered_from, number_among}
 use Rattle.row_rules.specs.Sites.{AreDifferent, has_place, owner_by, site_of, sites_among, place_of, site_places}
@@ -21,15 +22,6 @@ use Rattle.owned_laws.proofs.OwnerLaws.Intervals.{skeletons_are_owned}
 
 pub place_itself : (p : Place) → is_place p p ≡ true
 place_itself p = rw (eq-eqb p.0 p.0 refl, eq-eqb p.1 p.1 refl) refl
-
--- places that compare as one are equal
-pub place_is : (p q : Place) → is_place p q ≡ true → p ≡ q
-place_is p q e =
-    let both = and_parts (nat_eq p.0 q.0) (nat_eq p.1 q.1) e in
-    ap (λ (n : ℕ). pair n p.1) (eqb-true p.0 q.0 both.0) ∙ ap (λ (n : ℕ). pair q.0 n) (eqb-true p.1 q.1 both.1)
-  where
-    pair : ℕ → ℕ → Place
-    pair m n = (m, n)
 
 -- the number of a place among others, counted from one more, is one more
 number_suc : (places : List Place) (n : ℕ) (p : Place) → number_among (suc n) places p ≡ suc (number_among n places p)

@@ -238,7 +238,8 @@ module _ (u : Spelling) where
         numbered it None k = without_open (place u it.token) k
         numbered it (Some i) k =
             name_gone (Some it) (names xs) _ (adds_param u (Some it) i own t
-            (with_faults (fault_where (is_typed (slice_get (olds st).list i)) (place u it.token) defined_twice) st.names)) k
+            (with_faults
+            (fault_where (is_typed (slice_get (olds st).list i)) (place u it.token) defined_twice) st.names)) k
 
         by : (name : Option Named) → Kept keys fresh st.names.declared (opened u (name ∷ names xs)) →
             Kept keys fresh (old_declared_some u own name t (olds st)).names.declared (opened u (names xs))
@@ -311,13 +312,15 @@ module _ (u : Spelling) where
     kept_name t =
         subst (λ (xs : List (Option Named)). Kept keys fresh st.names.declared (opened u xs)) (sym (names_kept ds t)) h
 
-    declare_kept : Kept keys fresh (name_declared u st).names.declared (opened u (names (name_declared u st).declarations))
+    declare_kept : Kept keys fresh (name_declared u st).names.declared
+        (opened u (names (name_declared u st).declarations))
     declare_kept =
         name_closed ds _ (adds_some u (untagged_number (declaration st).is_untagged (declaration st).type)
         (declaration st).name (declaration st).storage (declaration st).declared st.names) h
 
     auto_kept : (token : ℕ) (t : Option CType) →
-        Kept keys fresh (auto_typed u token t st).names.declared (opened u (names (auto_typed u token t st).declarations))
+        Kept keys fresh (auto_typed u token t st).names.declared
+        (opened u (names (auto_typed u token t st).declarations))
     auto_kept token t =
         name_closed open_ _ (adds_some u (untagged_number d.is_untagged d.type) d.name d.storage d.declared
         (with_faults (fault_where (is_unknown t) (place u token) no_type) st.names)) (kept_name type)
@@ -333,9 +336,11 @@ module _ (u : Spelling) where
 
     old_kept : (b : Bool) →
         Kept keys fresh (if b then name_declared u st else name_ended (with_olds
-        (old_declared_some u (parameters st).own (declaration st).name (decayed (declaration st).declared) (olds st)) st)).names.declared
+        (old_declared_some u (parameters st).own (declaration st).name (decayed (declaration st).declared)
+        (olds st)) st)).names.declared
         (opened u (names (if b then name_declared u st else name_ended (with_olds
-        (old_declared_some u (parameters st).own (declaration st).name (decayed (declaration st).declared) (olds st)) st)).declarations))
+        (old_declared_some u (parameters st).own (declaration st).name (decayed (declaration st).declared)
+        (olds st)) st)).declarations))
     old_kept true = declare_kept
     old_kept false =
         unnamed_top ds (record (declaration st) {
@@ -368,7 +373,8 @@ module _ (u : Spelling) where
     declr_kept declrs.DeclarationEnd none = plain (top_gone ds h)
 
     stmt_kept : (op : StmtOp) → Next None (statement_step u st op)
-    stmt_kept stmts.FunctionBody = plain (same_names _ (entered_same (is_plain st) (is_counted u st) (last_or None st.names.declared) st.names))
+    stmt_kept stmts.FunctionBody =
+        plain (same_names _ (entered_same (is_plain st) (is_counted u st) (last_or None st.names.declared) st.names))
     stmt_kept op = plain h
 
     op_kept : (op : Op) → NoKey (op_key op) →
@@ -404,7 +410,8 @@ module _ (u : Spelling) where
       subst (λ (xs : List Place). Kept xs (fresh ++ (key_place u (fresh_key op) ++ fresh_places tape))
       (run u tape (step u st op)).names.declared []) (append_assoc keys key (key_places u tape))
       (subst (λ (xs : List Place). Kept ((keys ++ key) ++ key_places u tape) xs
-      (run u tape (step u st op)).names.declared []) (append_assoc fresh (key_place u (fresh_key op)) (fresh_places tape))
+      (run u tape (step u st op)).names.declared [])
+      (append_assoc fresh (key_place u (fresh_key op)) (fresh_places tape))
       (tape_kept tape (keys ++ key) (fresh ++ key_place u (fresh_key op)) rest (step u st op)
       (op_kept st h op (key_is_new keys (key_places u tape ++ rest) (op_key op) one))
       (subst AreDifferent (sym (append_assoc keys key (key_places u tape ++ rest))) one)))

@@ -188,7 +188,8 @@ module _ (S : Names) (differ : Differ S.declared) (keys : List Place) where
 
         top : AtTop N P m first
         top = here_at_top (AtTop N P m) at (inner_meaning s name)
-            (λ it e. named_is (AtTop N P m) (innermost s.scopes).names name it (around_top N P m s.scopes h.around) e) new
+            (λ it e. named_is (AtTop N P m) (innermost s.scopes).names name it
+            (around_top N P m s.scopes h.around) e) new
 
     pub enumerator_goes : (at : Place) (name : ℕ) → has_place keys at ≡ true →
         Grown (declared_here at name enumerator_role (base []) None s).declared S.declared →
@@ -233,13 +234,15 @@ module _ (S : Names) (differ : Differ S.declared) (keys : List Place) where
         first = linked name at s
 
         d : Declared
-        d = made at (if is_function t then function_role else object_role) first t (if is_function t then Some at else None)
+        d = made at (if is_function t then function_role else object_role) first t
+            (if is_function t then Some at else None)
             s
 
         is : Grown (s.declared ++ d ∷ []) S.declared → N first
         is g =
             file_or_new at (or_place (thing_of at.0 s.things name) (thing_of 0 s.things name))
-            (linked_is N at.0 s.things name h.things) (λ e. of_file s.declared d g (is_files at first (is_function t) e))
+            (linked_is N at.0 s.things name h.things)
+            (λ e. of_file s.declared d g (is_files at first (is_function t) e))
 
         fit : (things : List (ℕ × Place)) → N first → ThingsAre N things →
             Fit m (record (innermost s.scopes) { names = (name, means_thing first) ∷ (innermost s.scopes).names }
@@ -345,8 +348,8 @@ module _ (S : Names) (differ : Differ S.declared) (keys : List Place) where
     pub tag_used_goes : (u : Spelling) (alone : Bool) (kind : TagKind) (token tag : ℕ) →
         Goes m s (tag_used u alone kind token tag s).names
     tag_used_goes u alone kind token tag =
-        tag_goes (if alone then tag_in (innermost s.scopes).tags kind (u.key tag) else tag_through s.scopes kind (u.key tag))
-        u kind token tag
+        tag_goes (if alone then tag_in (innermost s.scopes).tags kind (u.key tag)
+        else tag_through s.scopes kind (u.key tag)) u kind token tag
 
     tag_known_goes : (tag : Option ℕ) (n : ℕ) (next : Names) → Goes m s next → Goes m s (tag_known tag n next)
     tag_known_goes None n next k = k
@@ -392,8 +395,8 @@ module _ (S : Names) (differ : Differ S.declared) (keys : List Place) where
       by : (i : Option ℕ) → Goes m olds.names (old_declared u own it t i olds).names
       by None = (h, adds_none)
       by (Some i) =
-          param_goes m (with_faults (fault_where (is_typed (slice_get olds.list i)) (place u it.token) defined_twice) olds.names)
-          h u (Some it) i own t key inside
+          param_goes m (with_faults (fault_where (is_typed (slice_get olds.list i))
+          (place u it.token) defined_twice) olds.names) h u (Some it) i own t key inside
 
   pub some_goes : (m : List Mark) (s : Names) → Fits m s → (u : Spelling) (untagged : Option ℕ) (it : Option Named)
       (words : List Keyword) (t : CType) → NameIn u keys it →

@@ -260,7 +260,8 @@ module _ (u : Spelling) (keys : List Place) where
   abbrev pub Reading : List Mark → List (Option Named) → List Declared → Type 0
   Reading [] xs ds = Unit {0}
   Reading (in_declaration name last own ∷ m) [] ds = ⊥
-  Reading (in_declaration name last own ∷ m) (x ∷ xs) ds = HasName name x × NameIn x × HasLastIn m last ds × Reading m xs ds
+  Reading (in_declaration name last own ∷ m) (x ∷ xs) ds =
+      HasName name x × NameIn x × HasLastIn m last ds × Reading m xs ds
   Reading (in_params own ∷ m) xs ds = Reading m xs ds
   Reading (in_tag ∷ m) xs ds = Reading m xs ds
   Reading (in_quiet ∷ m) xs ds = Reading m xs ds
@@ -281,7 +282,8 @@ module _ (u : Spelling) (keys : List Place) where
   reading_more (in_scope ∷ m) xs ds more h = reading_more m xs ds more h
   reading_more (in_body ∷ m) xs ds more h = reading_more m xs ds more h
 
-  pub reading_top : (name last : Option ℕ) (own : Bool) (m : List Mark) (xs : List OpenDeclaration) (ds : List Declared) →
+  pub reading_top : (name last : Option ℕ) (own : Bool) (m : List Mark) (xs : List OpenDeclaration)
+      (ds : List Declared) →
       Reading (in_declaration name last own ∷ m) (names xs) ds →
       HasName name (innermost_or no_declaration xs).name × NameIn (innermost_or no_declaration xs).name
       × HasLastIn m last ds × Reading m (names (without_innermost xs)) ds

@@ -51,7 +51,8 @@ last_new token [] d = tt
 last_new token (x ∷ ds) d = tt
 
 -- a name that is declared is one more declaration
-last_declared : (m : List Mark) (u : Spelling) (untagged name : Option ℕ) (it : Option Named) (words : List Keyword) (t : CType)
+last_declared : (m : List Mark) (u : Spelling) (untagged name : Option ℕ) (it : Option Named)
+    (words : List Keyword) (t : CType)
     (s : Names) → HasName name it → HasLastIn m name (declared_some u untagged it words t s).declared
 last_declared m u untagged None it words t s h = last_in m None _ tt
 last_declared m u untagged (Some token) None words t s h = absurd h
@@ -181,9 +182,11 @@ module _ (S : Names) (differ : Differ S.declared) (keys : List Place) (u : Spell
     body_next : (name : Option ℕ) (token : ℕ) → m ≡ in_declaration name (Some token) true ∷ [] →
         n ≡ in_body ∷ (in_declaration name (Some token) true ∷ []) → Next n st (statement_step u st stmts.FunctionBody)
     body_next name token was is =
-        next_is (in_body ∷ (in_declaration name (Some token) true ∷ [])) n st (statement_step u st stmts.FunctionBody) is
+        next_is (in_body ∷ (in_declaration name (Some token) true ∷ [])) n st
+        (statement_step u st stmts.FunctionBody) is
         (subst (λ (it : Option Declared). Next (in_body ∷ (in_declaration name (Some token) true ∷ [])) st
-        (record st { names = body_entered_by (is_plain st) (is_counted u st) it st.names })) (sym some.1) (by (is_counted u st)))
+        (record st { names = body_entered_by (is_plain st) (is_counted u st) it st.names })) (sym some.1)
+        (by (is_counted u st)))
       where
         k : Holds (in_declaration name (Some token) true ∷ []) st
         k = back m (in_declaration name (Some token) true ∷ []) st was h
@@ -289,10 +292,12 @@ module _ (S : Names) (differ : Differ S.declared) (keys : List Place) (u : Spell
         (declarator_step u st (declrs.DeclName token name)) was.1 (
           (
             reading_with u keys d.name d.last (Some token) d.last d.own d.own d.outer ds
-                (record (declaration st) { name = Some (record { token = token; name = name }) }) st.names.declared k.0 tt key
+                (record (declaration st) { name = Some (record { token = token; name = name }) })
+                st.names.declared k.0 tt key
                 (reading_top u keys d.name d.last d.own d.outer ds st.names.declared k.0).2,
             k.1,
-            refit (in_declaration d.name d.last d.own ∷ d.outer) (in_declaration (Some token) d.last d.own ∷ d.outer) st.names
+            refit (in_declaration d.name d.last d.own ∷ d.outer)
+                (in_declaration (Some token) d.last d.own ∷ d.outer) st.names
                 (λ a. a) (λ k. k) k.2,
           ),
           adds_none,
@@ -358,7 +363,8 @@ module _ (S : Names) (differ : Differ S.declared) (keys : List Place) (u : Spell
         k = back m (in_declaration name last b ∷ (in_params own ∷ rest)) st was h
 
         top : HasName name (declaration st).name × NameIn u keys (declaration st).name
-            × HasLastIn (in_params own ∷ rest) last st.names.declared × Reading u keys (in_params own ∷ rest) (names (without_innermost ds)) st.names.declared
+            × HasLastIn (in_params own ∷ rest) last st.names.declared
+            × Reading u keys (in_params own ∷ rest) (names (without_innermost ds)) st.names.declared
         top = reading_top u keys name last b (in_params own ∷ rest) ds st.names.declared k.0
 
         next : Names
@@ -367,8 +373,8 @@ module _ (S : Names) (differ : Differ S.declared) (keys : List Place) (u : Spell
 
         goes : Goes S differ keys (in_params own ∷ rest) st.names next
         goes = param_goes S differ keys (in_params own ∷ rest) st.names
-            (refit (in_declaration name last b ∷ (in_params own ∷ rest)) (in_params own ∷ rest) st.names (λ a. a) (λ k. k.1)
-            k.2) u (declaration st).name (length (parameters st).types) (parameters st).own
+            (refit (in_declaration name last b ∷ (in_params own ∷ rest)) (in_params own ∷ rest) st.names (λ a. a)
+            (λ k. k.1) k.2) u (declaration st).name (length (parameters st).types) (parameters st).own
             (decayed (declaration st).declared) top.1 (λ q k. k)
 
     ended : (s : Names) (own : Option Place) (params : Bool) (name last : Option ℕ) (flag : Bool) (outer : List Mark) →
@@ -426,8 +432,10 @@ module _ (S : Names) (differ : Differ S.declared) (keys : List Place) (u : Spell
           (
             reading_own u keys it.name it.last it.own (if it.params then true else it.own) it.outer (names ds)
                 (keep (parameters st).own behind).declared
-                (subst (λ (all : List Declared). Reading u keys (in_declaration it.name it.last it.own ∷ it.outer) (names ds) all)
-                (sym (keep_same (parameters st).own behind ∙ old_faults_same u (parameters st).identifiers st.names)) k.0),
+                (subst (λ (all : List Declared).
+                Reading u keys (in_declaration it.name it.last it.own ∷ it.outer) (names ds) all)
+                (sym (keep_same (parameters st).own behind
+                ∙ old_faults_same u (parameters st).identifiers st.names)) k.0),
             own.1,
             ended behind (parameters st).own it.params it.name it.last it.own it.outer own.0
                 (faults_fit _ (parameters st).identifiers st.names k.2),
@@ -455,7 +463,8 @@ module _ (S : Names) (differ : Differ S.declared) (keys : List Place) (u : Spell
       at_here = back m here st d.is h
 
       top : HasName d.name (declaration st).name × NameIn u keys (declaration st).name
-          × HasLastIn d.outer d.last st.names.declared × Reading u keys d.outer (names (without_innermost ds)) st.names.declared
+          × HasLastIn d.outer d.last st.names.declared
+          × Reading u keys d.outer (names (without_innermost ds)) st.names.declared
       top = reading_top u keys d.name d.last d.own d.outer ds st.names.declared at_here.0
 
       declared_next : n ≡ in_declaration None d.name d.own ∷ d.outer →
@@ -465,9 +474,8 @@ module _ (S : Names) (differ : Differ S.declared) (keys : List Place) (u : Spell
           next_is (in_declaration None d.name d.own ∷ d.outer) n st (declarator_step u st declrs.Declare) is (
             (
               reading_with u keys d.name d.last None d.name d.own d.own d.outer ds _ next.declared
-                  (read_on here (names ds) st.names next goes.1 at_here.0) tt tt
-                  (last_declared d.outer u untagged d.name (declaration st).name (declaration st).storage (declaration st).declared
-                  st.names top.0),
+                  (read_on here (names ds) st.names next goes.1 at_here.0) tt tt (last_declared d.outer u untagged
+                  d.name (declaration st).name (declaration st).storage (declaration st).declared st.names top.0),
               at_here.1,
               refit here (in_declaration None d.name d.own ∷ d.outer) next (λ a. a) (λ k. k) goes.0,
             ),
@@ -478,10 +486,12 @@ module _ (S : Names) (differ : Differ S.declared) (keys : List Place) (u : Spell
           untagged = untagged_number (declaration st).is_untagged (declaration st).type
 
           next : Names
-          next = declared_some u untagged (declaration st).name (declaration st).storage (declaration st).declared st.names
+          next =
+              declared_some u untagged (declaration st).name (declaration st).storage (declaration st).declared st.names
 
           goes : Goes S differ keys here st.names next
-          goes = some_goes S differ keys here st.names at_here.2 u untagged (declaration st).name (declaration st).storage
+          goes =
+              some_goes S differ keys here st.names at_here.2 u untagged (declaration st).name (declaration st).storage
               (declaration st).declared top.1 g
 
       member_next : n ≡ in_declaration None d.last d.own ∷ d.outer → Next n st (declarator_step u st declrs.Member)
@@ -533,7 +543,8 @@ module _ (S : Names) (differ : Differ S.declared) (keys : List Place) (u : Spell
     module _ (d : Declaring m) (outer : List Mark) (among : d.outer ≡ in_params true ∷ outer)
         (is : n ≡ in_declaration None d.name d.own ∷ d.outer) where
       abbrev found : Olds
-      found = old_declared_some u (parameters st).own (declaration st).name (decayed (declaration st).declared) (olds st)
+      found =
+          old_declared_some u (parameters st).own (declaration st).name (decayed (declaration st).declared) (olds st)
 
       old_inside : (q : Place) → IsWithin S keys q → AtTop (IsOfFile S) (IsWithin S keys) d.outer q
       old_inside q k =
@@ -547,7 +558,8 @@ module _ (S : Names) (differ : Differ S.declared) (keys : List Place) (u : Spell
           next_is (in_declaration None d.name d.own ∷ d.outer) n st (name_ended (with_olds found st)) is (
             (
               reading_with u keys d.name d.last None d.name d.own d.own d.outer ds _ found.names.declared
-                  (read_on (here d) (names ds) st.names found.names goes.1 (at_here d).0) tt tt (old_last found.names.declared),
+                  (read_on (here d) (names ds) st.names found.names goes.1 (at_here d).0) tt tt
+                  (old_last found.names.declared),
               subst (λ (ps : List (Option Place)). Owning (in_declaration None d.name d.own ∷ d.outer) ps)
                   (sym (owns_same st.parameters found.list)) (at_here d).1,
               refit (here d) (in_declaration None d.name d.own ∷ d.outer) found.names (λ a. a) (λ k. k) goes.0,
@@ -637,7 +649,8 @@ module _ (S : Names) (differ : Differ S.declared) (keys : List Place) (u : Spell
   then_next : (m n : List Mark) (st st2 st3 : State) → Next m st st2 → Next n st2 st3 → Next n st st3
   then_next m n st st2 st3 g h = (
     h.0,
-    adds_then st.names.uses st2.names.uses st3.names.uses st.names.declared st2.names.declared st3.names.declared g.1 h.1,
+    adds_then st.names.uses st2.names.uses st3.names.uses st.names.declared st2.names.declared
+        st3.names.declared g.1 h.1,
   )
 
   -- along a tape

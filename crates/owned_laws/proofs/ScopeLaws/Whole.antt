@@ -151,7 +151,8 @@ module _ (S : Names) (differ : Differ S.declared) where
         joined (file, adds) = (
           file,
           adds_then st.names.uses next.names.uses (run u (tape_of items) next).names.uses st.names.declared
-              next.names.declared (run u (tape_of items) next).names.declared (adds_map (λ it k. inl k) (λ d k. inl k) one.1)
+              next.names.declared (run u (tape_of items) next).names.declared
+              (adds_map (λ it k. inl k) (λ d k. inl k) one.1)
               (adds_map (λ it k. inr k) (λ d k. inr k) adds),
         )
 
@@ -332,5 +333,6 @@ names_stay named bracketed sources sound apart =
           subst (λ (at : Place). has_place keys at ≡ true) (declared_place S.declared p d e) k.0,
           k.1,
         ))
-        (declared_found (λ d. SomeSource sources (λ keys. DeclaredWithin S differ keys d)) adds.more p d adds.declared_are
+        (declared_found
+        (λ d. SomeSource sources (λ keys. DeclaredWithin S differ keys d)) adds.more p d adds.declared_are
         (ap (λ (ds : List Declared). declared_at ds p) (sym adds.declared_is) ∙ e))

@@ -1,7 +1,7 @@
 -- The tapes of all forms end what they begin.
 use Rattle.std.proofs.Common.{◌≡◌, ℕ, Bool, true, false, List, [], ◌∷◌, ◌++◌, Option, None, Some, refl, sym, ◌∙◌, ap, subst}
 use Rattle.std.specs.Prelude.{◌&&◌, ◌||◌, if◌then◌else◌}
-use Rattle.std.proofs.lemmas.Bool.{eq-eqb}
+use Rattle.std.proofs.lemmas.Bool.{eq-eqb, and_parts}
 use Rattle.c_tree.specs.Tree.{Expr, operation, cast, prefix, sizeof_value, sizeof_type, extension, index, call, dot, arrow, post, compound, name_use, number_use, char_use, text_use, paren, statement_expr, va_arg, va_start, va_copy, offset, Operator, comma, assign, cond, binary, SomeExpr, no_expr, some_expr, Exprs, no_exprs, more_exprs, SpecWords, no_words, more_words, SpecWord, storage, thread, inline_word, noreturn, qualifier, basic, struct_type, enum_type, typedef_name, attribute, SomeBody, no_body, some_body, StructItems, no_struct_items, more_struct_items, StructItem, member, member_semi, member_assert, MemDeclrs, no_mem_declrs, more_mem_declrs, MemDeclr, named, unnamed, SomeValue, no_value, some_value, EnumType, enum_of, SomeEnumBody, no_enum_body, some_enum_body, Enumerators, no_enumerators, more_enumerators, Declr, pointer, declr_name, declr_paren, array, params, abs_pointer, abs_paren, abs_array, abs_params, SomeDeclr, no_declr, some_declr, SomeSize, no_size, some_size, ArraySize, size_value, size_star, Params, no_params, more_params, Init, init_value, init_braced, InitList, init_list, InitItems, no_init_items, more_init_items, Desigs, no_desigs, more_desigs, Desig, member_desig, index_desig, SomeInit, no_init, some_init, InitDeclrs, no_init_declrs, more_init_declrs, Declaration, declaration, Decl, decl_declaration, decl_assert, BlockItems, no_block_items, more_block_items, BlockItem, block_decl, block_stmt, Stmt, block, expr_stmt, attr_stmt, label, case_stmt, default_stmt, if_stmt, switch_stmt, while_stmt, do_stmt, for_stmt, goto_stmt, continue_stmt, break_stmt, return_stmt, asm_stmt, SomeElse, no_else, some_else, ForStart, start_declaration, start_value, complex_part, label_use, compat, choose, generic, Assocs, no_assocs, more_assocs, Assoc, typed_assoc, default_assoc, typeof_value, typeof_type, align, auto_word, identifiers, base_name, range_desig, old_desig, block_labels, case_range, goto_value}
 use Rattle.c_tree.specs.Unit.{Item, function_item, old_function_item, decl_item, asm_item, semi_item, is_round_name}
 use Rattle.c_tree.specs.Ends.{first_token, last_token}
@@ -15,10 +15,6 @@ use Rattle.c_tape.specs.Tape.{tape_in, assocs_tape, assoc_tape, auto_declrs_tape
 use Rattle.owned_laws.specs.TapeLaws.Marks.{Mark, in_declaration, in_params, in_tag, in_body, is_open, is_token, body_begun, params_begun, name_token, some_name_token, function_token, in_part, auto_ended, lists_own, DeclaresIts, ItemsAreBracketed}
 use Rattle.owned_laws.specs.TapeLaws.Marks as marks
 use Rattle.owned_laws.proofs.TapeLaws.Passing.{Passes, Declares, none, join, one, quiet_passes, scope_passes, specs_pass, type_name_passes, params_pass, declared_passes, pieces_pass, rule_list_passes, arguments_pass, operator_passes, prefix_passes, tag_passes, body_passes, unnamed_passes, void_passes}
-
-both_true : (a b : Bool) → (a && b) ≡ true → (a ≡ true) × (b ≡ true)
-both_true true b e = (refl, e)
-both_true false b e = absurd cc
 
 -- what names and own parameters are behind a declarator
 
@@ -161,9 +157,9 @@ module _ {t : Option ℕ} where
       (own ≡ true → (m ≡ []) × (t ≡ name_token d)) → (own && is_name d) ≡ true →
       (m ≡ []) × (is_token (read (name_token d) n) t ≡ true)
   named_before own d n h e = (
-    (h (both_true own (is_name d) e).0).0,
+    (h (and_parts own (is_name d) e).0).0,
     subst (λ (it : Option ℕ). is_token (read (name_token d) n) it ≡ true)
-        (sym (h (both_true own (is_name d) e).0).1) (bare_read d n (both_true own (is_name d) e).1),
+        (sym (h (and_parts own (is_name d) e).0).1) (bare_read d n (and_parts own (is_name d) e).1),
   )
 
   -- what is no function's has no own parameters
@@ -189,14 +185,16 @@ module _ {t : Option ℕ} where
     expr_passes (sizeof_type word opening ws d closing) called aims =
         join (join (one refl) (type_name_passes (first_word ws) (words_pass ws false) (some_declr_passes d))) (one refl)
     expr_passes (extension keyword e) called aims = join (expr_passes e false aims) (one refl)
-    expr_passes (index e opening e2 closing) called aims = join (join (expr_passes e false false) (expr_passes e2 false false)) (one refl)
+    expr_passes (index e opening e2 closing) called aims =
+        join (join (expr_passes e false false) (expr_passes e2 false false)) (one refl)
     expr_passes (call e opening es closing) called aims =
         join (join (join (expr_passes e true false) (exprs_pass es)) (arguments_pass es)) (one refl)
     expr_passes (dot e token name) called aims = join (expr_passes e false aims) (one refl)
     expr_passes (arrow e token name) called aims = join (join (expr_passes e false false) (one refl)) (one refl)
     expr_passes (post e token p) called aims = join (expr_passes e false false) (one refl)
     expr_passes (compound opening ws d closing list) called aims =
-        join (join (join (join (join (type_name_passes (first_word ws) (words_pass ws false) (some_declr_passes d)) (one refl))
+        join (join
+        (join (join (join (type_name_passes (first_word ws) (words_pass ws false) (some_declr_passes d)) (one refl))
         (list_passes list)) (one refl)) (rule_list_passes list)) (one refl)
     expr_passes (name_use token name) called aims = one refl
     expr_passes (number_use token) called aims = one refl
@@ -278,7 +276,8 @@ module _ {t : Option ℕ} where
     word_passes (noreturn token) alone = none
     word_passes (qualifier q) alone = one refl
     word_passes (basic word) alone = void_passes (is_void word.keyword)
-    word_passes (struct_type word attrs tag body) alone = struct_passes body alone (tag_kind word.keyword) word.token tag
+    word_passes (struct_type word attrs tag body) alone =
+        struct_passes body alone (tag_kind word.keyword) word.token tag
     word_passes (enum_type e) alone = enum_passes e
     word_passes (typedef_name name) alone = one refl
     word_passes (attribute attr) alone = none
@@ -321,7 +320,8 @@ module _ {t : Option ℕ} where
         record {
           name = None;
           last = dd;
-          goes = join (join (join (plain d (contents_pass d false no_own)) (pieces_pass d)) (one refl)) (some_value_passes width);
+          goes = join (join (join (plain d (contents_pass d false no_own)) (pieces_pass d)) (one refl))
+              (some_value_passes width);
         }
     mem_declr_passes (unnamed colon e attrs) {n = n} {dd = dd} =
         record { name = n; last = dd; goes = quiet_passes (expr_passes e false false) }
@@ -350,7 +350,11 @@ module _ {t : Option ℕ} where
         Declares t n dd o m (some_declr_tape d)
     some_declr_passes no_declr {n = n} {dd = dd} = record { name = n; last = dd; goes = none }
     some_declr_passes (some_declr d) {n = n} {dd = dd} =
-        record { name = read (name_token d) n; last = dd; goes = join (plain d (contents_pass d false no_own)) (pieces_pass d) }
+        record {
+          name = read (name_token d) n;
+          last = dd;
+          goes = join (plain d (contents_pass d false no_own)) (pieces_pass d);
+        }
 
     pub contents_pass : (d : Declr) → {m : List Mark} {n dd : Option ℕ} {o : Bool} (own : Bool) →
         (own ≡ true → (m ≡ []) × (t ≡ name_token d)) →
@@ -441,7 +445,8 @@ module _ {t : Option ℕ} where
     declaration_passes : (d : Declaration) → {m : List Mark} → is_open m ≡ true → Over t m (declaration_tape d)
     declaration_passes (declaration extensions ws ds semi) in_open =
         join (join (specs_pass (words_pass ws _))
-        (either_declares (are_auto ws ds) (auto_declrs_pass ds semi (open_takes _ in_open)) (init_declrs_pass ds in_open)).goes)
+        (either_declares (are_auto ws ds) (auto_declrs_pass ds semi (open_takes _ in_open))
+        (init_declrs_pass ds in_open)).goes)
         (one refl)
 
     -- declarators of names that have the types of their initialisers
@@ -488,7 +493,8 @@ module _ {t : Option ℕ} where
         join (quiet_passes (expr_passes e false false)) (stmt_passes t false in_open)
     stmt_passes (default_stmt keyword colon t) kept in_open = stmt_passes t false in_open
     stmt_passes (if_stmt keyword opening e closing t other) kept in_open =
-        scope_passes (join (join (join (expr_passes e false false) (one refl)) (scope_passes (stmt_passes t false refl)))
+        scope_passes
+        (join (join (join (expr_passes e false false) (one refl)) (scope_passes (stmt_passes t false refl)))
         (some_else_passes other))
     stmt_passes (switch_stmt keyword opening e closing t) kept in_open =
         scope_passes (join (join (expr_passes e false false) (one refl)) (scope_passes (stmt_passes t false refl)))
@@ -542,7 +548,8 @@ module _ {t : Option ℕ} where
   old_declaration_passes : (d : Declaration) {m : List Mark} → Over t (in_params true ∷ m) (old_declaration_tape d)
   old_declaration_passes (declaration extensions ws ds semi) =
       join (join (specs_pass (words_pass ws _))
-      (either_declares (are_auto ws ds) (auto_declrs_pass ds semi (λ n d o. refl)) (old_declrs_pass ds)).goes) (one refl)
+      (either_declares (are_auto ws ds) (auto_declrs_pass ds semi (λ n d o. refl)) (old_declrs_pass ds)).goes)
+      (one refl)
 
   old_declarations_pass : (ds : List Declaration) {m : List Mark}
       → Over t (in_params true ∷ m) (old_declarations_tape ds)

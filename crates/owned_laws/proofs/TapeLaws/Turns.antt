@@ -110,7 +110,8 @@ member_was m n e = absurd cc
 
 -- a parameter that ends was in a declaration in a list of parameters, which stays
 pub param_was : (m n : List Mark) → param_ended m ≡ Some n →
-    (d : Declaring m) × (own : Bool) × (rest : List Mark) × (d.outer ≡ in_params own ∷ rest) × (n ≡ in_params own ∷ rest)
+    (d : Declaring m) × (own : Bool) × (rest : List Mark) × (d.outer ≡ in_params own ∷ rest)
+    × (n ≡ in_params own ∷ rest)
 param_was (in_declaration name last b ∷ (in_params own ∷ m)) n e =
     (record { name = name; last = last; own = b; outer = in_params own ∷ m; is = refl }, own, m, refl, cc)
 param_was m n e = absurd cc
@@ -166,7 +167,8 @@ body_begins t (in_declaration name last true ∷ []) n e = by (is_token last t) 
   where
     by : (b : Bool) → is_token last t ≡ b →
         (if b then Some (in_body ∷ (in_declaration name last true ∷ [])) else None) ≡ Some n →
-        (name2 : Option ℕ) × (token : ℕ) × (in_declaration name last true ∷ [] ≡ in_declaration name2 (Some token) true ∷ [])
+        (name2 : Option ℕ) × (token : ℕ)
+        × (in_declaration name last true ∷ [] ≡ in_declaration name2 (Some token) true ∷ [])
         × (n ≡ in_body ∷ (in_declaration name last true ∷ [])) × (t ≡ Some token)
     by true is e =
         let both = token_is last t is in

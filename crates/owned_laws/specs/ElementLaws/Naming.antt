@@ -11,4 +11,5 @@ ElementsAreNamed = (p : Program) → All IsSound p.sources → AreSized p.lattic
 
 -- the law: each constant and bound of a program's system names a lattice that is there, and an element of it
 abbrev pub LatticesAreNamed : Type 0
-LatticesAreNamed = (p : Program) → All IsSound p.sources → AreSized p.lattices → NamesElements (system_of p) (orders_of p.lattices)
+LatticesAreNamed =
+    (p : Program) → All IsSound p.sources → AreSized p.lattices → NamesElements (system_of p) (orders_of p.lattices)

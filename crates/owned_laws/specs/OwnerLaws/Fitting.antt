@@ -1,6 +1,5 @@
 -- What is asked of each constraint, that a system is well owned: a flow stays in one function, a call or a return of a
--- site
--- leads from its owner to its target or back.
+-- site leads from its owner to its target or back.
 use Rattle.std.specs.Prelude.{◌≡◌, ℕ, List, [], ◌∷◌, ◌++◌, slice_get, Option, None, Some, if◌then◌else◌}
 use Rattle.qual_base.specs.declared.places.Owner.{Owner}
 use Rattle.qual_base.specs.declared.places.Owner.TheVariants.{Function}

@@ -25,8 +25,7 @@ SkeletonsAreOwned =
     → AllOwned (owner_among functions starts) (owner_by functions it.start.owner) (nodes (skeleton_of it))
 
 -- The flows between a function's skeleton, which is its own, and an instance of it lead from the owner of the instance
--- to the
--- function and back, at the site that has the number of the instance's place.
+-- to the function and back, at the site that has the number of the instance's place.
 pub record Leads (functions : List Place) (starts : List Start) (it of : Numbered) (f : Place) : Type 0 where
   pub site : slice_get (sites_among functions starts) (number_among 0 (site_places starts) it.start.at) ≡ Some (record {
     unit = it.start.at.0;

@@ -112,8 +112,7 @@ pub record KnowsStarts (w : World) (starts : List Start) : Type 0 where
   pub sites_are : w.sites ≡ site_places starts
 
 -- at a token there is an instance of a function, whose skeleton is that of its declaration at `first`, the first of the
--- unit or of the
--- prelude; `f` is its link
+-- unit or of the prelude; `f` is its link
 pub record IsInstance (w : World) (starts : List Start) (token : ℕ) (first f : Place) : Type 0 where
   pub here : Start
   pub begins_here : start_at starts (at w token) ≡ Some here

@@ -18,8 +18,7 @@ use Rattle.c_tape.specs.Tape.{item_tape}
 -- something that is begun and not at its end
 pub data Mark : Type 0 where
   -- a declaration, from the end of its specifiers on: the tokens of the name that is read, where there is one, and of
-  -- the name
-  -- that was declared last, and whether the own parameters of a function are behind us
+  -- the name that was declared last, and whether the own parameters of a function are behind us
   in_declaration : Option ℕ → Option ℕ → Bool → Mark
   -- a list of parameters; whether they are a function's own
   in_params : Bool → Mark
@@ -122,7 +121,8 @@ part_ended marks = None
 -- a name with the type of its initialiser is declared where a declaration may declare, or among a function's own
 -- parameters
 abbrev pub auto_ended : List Mark → Option (List Mark)
-auto_ended (in_part ∷ (in_declaration n d own ∷ (in_params true ∷ marks))) = Some (in_declaration None n own ∷ (in_params true ∷ marks))
+auto_ended (in_part ∷ (in_declaration n d own ∷ (in_params true ∷ marks))) =
+    Some (in_declaration None n own ∷ (in_params true ∷ marks))
 auto_ended (in_part ∷ marks) = declared marks
 auto_ended marks = None
 
@@ -133,7 +133,8 @@ identified marks = None
 
 -- a parameter of a list of identifiers is declared behind it
 abbrev pub old_declared : List Mark → Option (List Mark)
-old_declared (in_declaration n d own ∷ (in_params true ∷ marks)) = Some (in_declaration None n own ∷ (in_params true ∷ marks))
+old_declared (in_declaration n d own ∷ (in_params true ∷ marks)) =
+    Some (in_declaration None n own ∷ (in_params true ∷ marks))
 old_declared marks = None
 
 -- what is begun behind an op of the forms with type names
@@ -201,8 +202,7 @@ stmt_turn t marks stmts.FunctionBody = body_begun t marks
 stmt_turn t marks stmts.FunctionEnd = body_ended marks
 
 -- What is begun behind an op, by what is before it; none where the op ends or needs what is not there. Own parameters
--- and a body
--- are those of the function whose name is at the token `t`.
+-- and a body are those of the function whose name is at the token `t`.
 abbrev pub turn : Option ℕ → List Mark → Op → Option (List Mark)
 turn t marks (ops.Expr op) = Some marks
 turn t marks (ops.Form op) = form_turn marks op

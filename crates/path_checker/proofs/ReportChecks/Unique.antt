@@ -1,6 +1,9 @@
 -- A report comes to one thing.
-use Rattle.std.proofs.Common.{◌≡◌, ℕ, zero, suc, ◌+◌, ◌<◌, ◌≤◌, ◌⊎◌, inl, inr, List, [], ◌∷◌, ◌++◌, length, take, drop, slice_get, Option, Some, None, All, refl, sym, ◌∙◌, ap, subst, arith, append_assoc, take-append-drop, eq-or-lt_of_le}
+use Rattle.std.proofs.Common.{◌≡◌, ℕ, zero, suc, ◌+◌, ◌<◌, ◌≤◌, inl, inr, List, [], ◌∷◌, ◌++◌, length, take, drop, slice_get, Option, Some, None, All, refl, sym, ◌∙◌, ap, subst, arith, append_assoc, take-append-drop, eq-or-lt_of_le}
 use Rattle.std.proofs.lemmas.List.Elements.{All-head, All-tail}
+use Rattle.std.proofs.lemmas.Option.{slice_get_within}
+use Rattle.std.proofs.lemmas.Bool.{cases_lt}
+use Rattle.qual_base.proofs.Lists.{get_left}
 use Rattle.lattice_core.specs.Order.{Order}
 use Rattle.flow_graph.specs.declared.proof.BadStep.{BadStep}
 use Rattle.flow_graph.specs.System.{System}
@@ -16,23 +19,6 @@ use Rattle.path_checker.specs.declared.report_checks.judging.Code.{Code}
 use Rattle.path_checker.specs.declared.report_checks.judging.Code.TheVariants.{K1, K2, Rule}
 use Rattle.path_checker.specs.ReportChecks.Checks.{StepsHold, IsBad, ComesTo}
 
--- which of two numbers is not above the other
-cases : (a b : ℕ) → (a < b) ⊎ (b ≤ a)
-cases a b = grind arith
-
--- a place of a list that has an item is below its length
-within_of : {A : Type 0} → (xs : List A) (k : ℕ) (x : A) → slice_get xs k ≡ Some x → k < length xs
-within_of [] k x is = absurd cc
-within_of (y ∷ ys) zero x is = omega arith
-within_of (y ∷ ys) (suc k) x is = let deeper = within_of ys k x is in omega (arith, deeper)
-
--- an item of a list stands at the same place where another list is behind it
-get_of_longer : {A : Type 0} → (xs ys : List A) (k : ℕ) (x : A) → slice_get xs k ≡ Some x
-    → slice_get (xs ++ ys) k ≡ Some x
-get_of_longer [] ys k x is = absurd cc
-get_of_longer (y ∷ xs) ys zero x is = is
-get_of_longer (y ∷ xs) ys (suc k) x is = get_of_longer xs ys k x is
-
 -- an item before a place is one of the first so many
 get_of_front : {A : Type 0} → (xs : List A) (j k : ℕ) (x : A) → j < k → slice_get xs j ≡ Some x
     → slice_get (take k xs) j ≡ Some x
@@ -46,7 +32,9 @@ front_of_front : {A : Type 0} → (xs : List A) (j k : ℕ) → j ≤ k → (mid
 front_of_front xs zero k below = (take k xs, refl)
 front_of_front xs (suc j) zero below = absurd (omega arith)
 front_of_front [] (suc j) (suc k) below = ([], refl)
-front_of_front (x ∷ xs) (suc j) (suc k) below = let deeper = front_of_front xs j k (omega arith) in (deeper.0, ap (λ ys. x ∷ ys) deeper.1)
+front_of_front (x ∷ xs) (suc j) (suc k) below =
+    let deeper = front_of_front xs j k (omega arith) in
+    (deeper.0, ap (λ ys. x ∷ ys) deeper.1)
 
 module _ (edges : ℕ) where
   -- each step by a constraint has the number of one
@@ -62,7 +50,8 @@ module _ (edges : ℕ) where
       → AllNamed (step_lines steps behind)
   steps_named [] behind named all = all
   steps_named (by_constraint n ∷ steps) behind named all =
-      named_line (Take n) (step_lines steps behind) (λ m is. let same : n ≡ m = cc in omega (arith, same, named.0)) (steps_named steps behind named.1 all)
+      named_line (Take n) (step_lines steps behind) (λ m is. let same : n ≡ m = cc in omega (arith, same, named.0))
+      (steps_named steps behind named.1 all)
   steps_named (by_sub_path n ∷ steps) behind named all =
       named_line (Through n) (step_lines steps behind) (λ m is. absurd cc) (steps_named steps behind named all)
 
@@ -79,18 +68,21 @@ module _ (edges : ℕ) where
       let main = step_lines e.main (error_lines errors) in
       named_line Error (sub_lines 1 e.subs (Path ∷ main)) (λ m is. absurd cc)
       (subs_named 1 e.subs (Path ∷ main) named.0
-      (named_line Path main (λ m is. absurd cc) (steps_named e.main (error_lines errors) named.1 (errors_named errors named.2))))
+      (named_line Path main (λ m is. absurd cc)
+      (steps_named e.main (error_lines errors) named.1 (errors_named errors named.2))))
 
   report_named : (lines : List Line) → IsReport edges lines → AllNamed lines
   report_named lines is =
       subst (λ (ls : List Line). AllNamed ls) (sym is.lines_are)
-      (named_line Rejected (error_lines (is.first ∷ is.others)) (λ m same. absurd cc) (errors_named (is.first ∷ is.others) is.named))
+      (named_line Rejected (error_lines (is.first ∷ is.others)) (λ m same. absurd cc)
+      (errors_named (is.first ∷ is.others) is.named))
 
   begun_named : (lines : List Line) → BeginsReport edges lines → AllNamed lines
-  begun_named lines begun k m is = report_named (lines ++ begun.0) begun.1 k m (get_of_longer lines begun.0 k (Take m) is)
+  begun_named lines begun k m is = report_named (lines ++ begun.0) begun.1 k m (get_left lines begun.0 k (Take m) is)
 
   whole_begins : (lines : List Line) (k : ℕ) → IsReport edges lines → BeginsReport edges (take k lines)
-  whole_begins lines k is = (drop k lines, subst (λ (ls : List Line). IsReport edges ls) (sym (take-append-drop k lines)) is)
+  whole_begins lines k is =
+      (drop k lines, subst (λ (ls : List Line). IsReport edges ls) (sym (take-append-drop k lines)) is)
 
   less_begins : (lines : List Line) (j k : ℕ) → j ≤ k → BeginsReport edges (take k lines)
       → BeginsReport edges (take j lines)
@@ -103,50 +95,67 @@ module _ (edges : ℕ) where
 module _ (edges : ℕ) (lines : List Line) where
   fits_whole : (n : ℕ) → IsReport edges lines → IsMisfit edges lines n → ⊥
   fits_whole n is misfit =
-      elim (eq-or-lt_of_le misfit.within) [ inl end ↦ misfit.unfinished end is | inr below ↦ misfit.misfit below edges (whole_begins edges lines (suc misfit.before) is) ]
+      elim (eq-or-lt_of_le misfit.within) [
+        | inl end ↦ misfit.unfinished end is
+        | inr below ↦ misfit.misfit below edges (whole_begins edges lines (suc misfit.before) is)
+      ]
 
   names_whole : (n : ℕ) → IsReport edges lines → NamesNothing edges lines n → ⊥
-  names_whole n is nameless = let named = report_named edges lines is nameless.before nameless.constraint nameless.line_is in omega (arith, named, nameless.past)
+  names_whole n is nameless =
+      let named = report_named edges lines is nameless.before nameless.constraint nameless.line_is in
+      omega (arith, named, nameless.past)
 
   no_later_misfit : (n m : ℕ) (a : IsMisfit edges lines n) (b : IsMisfit edges lines m) → a.before < b.before → ⊥
-  no_later_misfit n m a b below = a.misfit (omega (arith, below, b.within)) edges (less_begins edges lines (suc a.before) b.before (omega (arith, below)) b.begins)
+  no_later_misfit n m a b below =
+      a.misfit (omega (arith, below, b.within)) edges
+      (less_begins edges lines (suc a.before) b.before (omega (arith, below)) b.begins)
 
   misfit_once : (n m : ℕ) → IsMisfit edges lines n → IsMisfit edges lines m → n ≡ m
   misfit_once n m a b =
-      elim (cases a.before b.before) [
+      elim (cases_lt a.before b.before) [
         | inl below ↦ absurd (no_later_misfit n m a b below)
-        | inr over ↦ elim (cases b.before a.before) [ inl below ↦ absurd (no_later_misfit m n b a below) | inr same ↦ omega (arith, a.number, b.number, over, same) ]
+        | inr over ↦ elim (cases_lt b.before a.before) [
+          | inl below ↦ absurd (no_later_misfit m n b a below)
+          | inr same ↦ omega (arith, a.number, b.number, over, same)
+        ]
       ]
 
   no_later_nameless : (n m : ℕ) (a : NamesNothing edges lines n) (b : NamesNothing edges lines m) → a.before < b.before
       → ⊥
   no_later_nameless n m a b below =
-      let named = begun_named edges (take b.before lines) b.begins a.before a.constraint (get_of_front lines a.before b.before (Take a.constraint) below a.line_is) in
+      let named = begun_named edges (take b.before lines) b.begins a.before a.constraint
+      (get_of_front lines a.before b.before (Take a.constraint) below a.line_is) in
       omega (arith, named, a.past)
 
   nameless_once : (n m : ℕ) → NamesNothing edges lines n → NamesNothing edges lines m → n ≡ m
   nameless_once n m a b =
-      elim (cases a.before b.before) [
+      elim (cases_lt a.before b.before) [
         | inl below ↦ absurd (no_later_nameless n m a b below)
-        | inr over ↦ elim (cases b.before a.before) [ inl below ↦ absurd (no_later_nameless m n b a below) | inr same ↦ omega (arith, a.number, b.number, over, same) ]
+        | inr over ↦ elim (cases_lt b.before a.before) [
+          | inl below ↦ absurd (no_later_nameless m n b a below)
+          | inr same ↦ omega (arith, a.number, b.number, over, same)
+        ]
       ]
 
   not_both : (n m : ℕ) → IsMisfit edges lines n → NamesNothing edges lines m → ⊥
   not_both n m a b =
-      elim (cases b.before a.before) [
+      elim (cases_lt b.before a.before) [
         | inl below ↦
-            let named = begun_named edges (take a.before lines) a.begins b.before b.constraint (get_of_front lines b.before a.before (Take b.constraint) below b.line_is) in
+            let named = begun_named edges (take a.before lines) a.begins b.before b.constraint
+            (get_of_front lines b.before a.before (Take b.constraint) below b.line_is) in
             omega (arith, named, b.past)
         | inr over ↦
-            let inside = within_of lines b.before (Take b.constraint) b.line_is in
-            a.misfit (omega (arith, over, inside)) (suc b.constraint) (less_begins (suc b.constraint) lines (suc a.before) (suc b.before) (omega (arith, over)) b.fits)
+            let inside = slice_get_within lines b.before (Take b.constraint) b.line_is in
+            a.misfit (omega (arith, over, inside)) (suc b.constraint)
+            (less_begins (suc b.constraint) lines (suc a.before) (suc b.before) (omega (arith, over)) b.fits)
       ]
 
 module _ (fault : Steps → Option BadStep) where
   all_at : (before : List Steps) (proof : Steps) (behind : List Steps)
       → All (λ p. fault p ≡ None) (before ++ proof ∷ behind) → fault proof ≡ None
   all_at [] proof behind all = All-head (λ p. fault p ≡ None) proof behind all
-  all_at (p ∷ before) proof behind all = all_at before proof behind (All-tail (λ p. fault p ≡ None) p (before ++ proof ∷ behind) all)
+  all_at (p ∷ before) proof behind all =
+      all_at before proof behind (All-tail (λ p. fault p ≡ None) p (before ++ proof ∷ behind) all)
 
   first_once : (one two : List Steps) (p q : Steps) (behind rest : List Steps) (bad other : BadStep)
       → All (λ p. fault p ≡ None) one → All (λ p. fault p ≡ None) two →
@@ -154,11 +163,18 @@ module _ (fault : Steps → Option BadStep) where
   first_once [] [] p q behind rest bad other hold holds fails failing same =
       let here : p ≡ q = cc in let both : Some bad ≡ Some other = sym fails ∙ ap fault here ∙ failing in cc
   first_once [] (y ∷ two) p q behind rest bad other hold holds fails failing same =
-      let here : p ≡ y = cc in let none : fault y ≡ None = All-head (λ p. fault p ≡ None) y two holds in let clash : Some bad ≡ None = sym fails ∙ ap fault here ∙ none in absurd cc
+      let here : p ≡ y = cc in
+      let none : fault y ≡ None = All-head (λ p. fault p ≡ None) y two holds in
+      let clash : Some bad ≡ None = sym fails ∙ ap fault here ∙ none in
+      absurd cc
   first_once (x ∷ one) [] p q behind rest bad other hold holds fails failing same =
-      let here : x ≡ q = cc in let none : fault x ≡ None = All-head (λ p. fault p ≡ None) x one hold in let clash : Some other ≡ None = sym failing ∙ ap fault (sym here) ∙ none in absurd cc
+      let here : x ≡ q = cc in
+      let none : fault x ≡ None = All-head (λ p. fault p ≡ None) x one hold in
+      let clash : Some other ≡ None = sym failing ∙ ap fault (sym here) ∙ none in
+      absurd cc
   first_once (x ∷ one) (y ∷ two) p q behind rest bad other hold holds fails failing same =
-      first_once one two p q behind rest bad other (All-tail (λ p. fault p ≡ None) x one hold) (All-tail (λ p. fault p ≡ None) y two holds) fails failing cc
+      first_once one two p q behind rest bad other (All-tail (λ p. fault p ≡ None) x one hold)
+      (All-tail (λ p. fault p ≡ None) y two holds) fails failing cc
 
 module _ (sys : System) (orders : List Order) (text : List ℕ) where
   abbrev fault_in : Steps → Option BadStep
@@ -170,25 +186,33 @@ module _ (sys : System) (orders : List Order) (text : List ℕ) where
   never_holds line (Rule why) holds bad =
       let fails = bad.1 in
       let none : fault_in fails.proof ≡ None =
-      all_at fault_in fails.before fails.proof fails.behind (subst (λ (ps : List Steps). All (StepsHold sys orders) ps) fails.parts holds.1) in
+      all_at fault_in fails.before fails.proof fails.behind
+      (subst (λ (ps : List Steps). All (StepsHold sys orders) ps) fails.parts holds.1) in
       let clash : Some (record { line = line; why = why }) ≡ None = sym fails.fails ∙ none in
       absurd cc
 
   bad_once : (line other : ℕ) (code tag : Code) → IsBad sys orders text line code → IsBad sys orders text other tag
       → Bad line code ≡ Bad other tag
-  bad_once line other K1 K1 one two = ap (λ n. Bad n K1) (misfit_once (length sys.constraints) (lines_of text) line other one two)
+  bad_once line other K1 K1 one two =
+      ap (λ n. Bad n K1) (misfit_once (length sys.constraints) (lines_of text) line other one two)
   bad_once line other K1 K2 one two = absurd (not_both (length sys.constraints) (lines_of text) line other one two)
-  bad_once line other K1 (Rule why) one two = absurd (fits_whole (length sys.constraints) (lines_of text) line two.0 one)
+  bad_once line other K1 (Rule why) one two =
+      absurd (fits_whole (length sys.constraints) (lines_of text) line two.0 one)
   bad_once line other K2 K1 one two = absurd (not_both (length sys.constraints) (lines_of text) other line two one)
-  bad_once line other K2 K2 one two = ap (λ n. Bad n K2) (nameless_once (length sys.constraints) (lines_of text) line other one two)
-  bad_once line other K2 (Rule why) one two = absurd (names_whole (length sys.constraints) (lines_of text) line two.0 one)
-  bad_once line other (Rule why) K1 one two = absurd (fits_whole (length sys.constraints) (lines_of text) other one.0 two)
-  bad_once line other (Rule why) K2 one two = absurd (names_whole (length sys.constraints) (lines_of text) other one.0 two)
+  bad_once line other K2 K2 one two =
+      ap (λ n. Bad n K2) (nameless_once (length sys.constraints) (lines_of text) line other one two)
+  bad_once line other K2 (Rule why) one two =
+      absurd (names_whole (length sys.constraints) (lines_of text) line two.0 one)
+  bad_once line other (Rule why) K1 one two =
+      absurd (fits_whole (length sys.constraints) (lines_of text) other one.0 two)
+  bad_once line other (Rule why) K2 one two =
+      absurd (names_whole (length sys.constraints) (lines_of text) other one.0 two)
   bad_once line other (Rule why) (Rule reason) one two =
       let a = one.1 in
       let b = two.1 in
       let same : record { line = line; why = why } ≡ record { line = other; why = reason } =
-      first_once fault_in a.before b.before a.proof b.proof a.behind b.behind (record { line = line; why = why }) (record { line = other; why = reason }) a.hold b.hold a.fails b.fails (sym a.parts ∙ b.parts) in
+      first_once fault_in a.before b.before a.proof b.proof a.behind b.behind (record { line = line; why = why })
+      (record { line = other; why = reason }) a.hold b.hold a.fails b.fails (sym a.parts ∙ b.parts) in
       ap (λ (bad : BadStep). Bad bad.line (Rule bad.why)) same
 
   pub comes_to_one : (one two : Checked) → ComesTo sys orders text one → ComesTo sys orders text two → one ≡ two

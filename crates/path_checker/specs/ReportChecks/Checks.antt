@@ -34,11 +34,11 @@ abbrev pub IsBad : System → List Order → List ℕ → ℕ → Code → Type 
 IsBad sys orders text line K1 = IsMisfit (length sys.constraints) (lines_of text) line
 IsBad sys orders text line K2 = NamesNothing (length sys.constraints) (lines_of text) line
 IsBad sys orders text line (Rule why) =
-    IsReport (length sys.constraints) (lines_of text) × FailsFirst sys orders (proofs_in (lines_of text)) (record { line = line; why = why })
+    IsReport (length sys.constraints) (lines_of text)
+    × FailsFirst sys orders (proofs_in (lines_of text)) (record { line = line; why = why })
 
 -- What a text comes to as a report over a system: its paths hold where it reads and all its proofs hold, and else
--- something
--- is wrong at a line.
+-- something is wrong at a line.
 abbrev pub ComesTo : System → List Order → List ℕ → Checked → Type 0
 ComesTo sys orders text Hold = IsReport (length sys.constraints) (lines_of text) × All (StepsHold sys orders) (proofs_in (lines_of text))
 ComesTo sys orders text (Bad line code) = IsBad sys orders text line code

@@ -24,11 +24,11 @@ same_qual (quals.Word word) = refl
 same_qual (quals.Element token) = refl
 same_qual (quals.Index token) = refl
 
-same_enum : (e : EnumType) → tokens.enum_token e ≡ trees.enum_token e
+pub same_enum : (e : EnumType) → tokens.enum_token e ≡ trees.enum_token e
 same_enum (enum_of keyword attrs tag body) = refl
 
 -- the first token of a specifier is the same by the tree's rule and by the rule of types
-same_word : (word : SpecWord) → tokens.word_token word ≡ trees.word_token word
+pub same_word : (word : SpecWord) → tokens.word_token word ≡ trees.word_token word
 same_word (storage word) = refl
 same_word (thread token) = refl
 same_word (inline_word token) = refl

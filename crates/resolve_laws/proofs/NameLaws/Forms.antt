@@ -1,6 +1,7 @@
 -- What each form that holds specifiers or declarators makes of names, where its parts do what they should.
 use Rattle.std.proofs.Common.{◌≡◌, ℕ, suc, Bool, true, false, ◌&&◌, if◌then◌else◌, List, [], ◌∷◌, ◌++◌, length, Option, None, Some, refl, ◌∙◌, ap, subst}
 use Rattle.std.proofs.lemmas.List.{append-nil}
+use Rattle.qual_base.proofs.Tests.{and_second, and_first}
 use Rattle.c_words.specs.declared.kinds.Keyword.{Keyword}
 use Rattle.c_words.specs.declared.kinds.Keyword.TheVariants as keywords
 use Rattle.c_syntax.specs.declared.parts.Identifier.{Identifier}
@@ -106,14 +107,6 @@ length_push (x ∷ types) t = ap suc (length_push types t)
 
 -- the names of `void` as no parameter
 
-pub and_left : (a b : Bool) → a && b ≡ true → a ≡ true
-and_left true b h = refl
-and_left false b h = absurd cc
-
-and_right : (a b : Bool) → a && b ≡ true → b ≡ true
-and_right true b h = h
-and_right false b h = absurd cc
-
 module _ (u : Spelling) where
   void_word : (alone : Bool) (word : SpecWord) (t : CType) (s : Names) → leaves_void word ≡ true
       → (word_named u alone word t s).names ≡ s
@@ -137,8 +130,8 @@ module _ (u : Spelling) where
   void_words alone no_words t w s h = refl
   void_words alone (more_words word ws) t w s h =
       void_words alone ws (word_named u alone word t s).type (words_behind u word w) (word_named u alone word t s).names
-      (and_right (leaves_void word) _ h)
-      ∙ void_word alone word t s (and_left (leaves_void word) _ h)
+      (and_second (leaves_void word) _ h)
+      ∙ void_word alone word t s (and_first (leaves_void word) _ h)
 
   pub none_names : (ps : Params) (own : Option Place) (s : Names) → trees.says_none ps ≡ true
       → (params_named u 0 own ps s).names ≡ s
@@ -264,8 +257,10 @@ module _ (u : Spelling) where
       → Goes u (tag_tape alone kind tag) (among_words st t w k b s)
       (among_words st (tag_named u alone kind tag t s).type w k b (tag_named u alone kind tag t s).names)
   tag_goes alone kind None st t w k b s = stays u _
-  tag_goes true kind (Some tag) st t w k b s = one u (ops.Spec (specs.TagAlone kind tag.token tag.name)) _ (λ passed. refl)
-  tag_goes false kind (Some tag) st t w k b s = one u (ops.Spec (specs.TagUse kind tag.token tag.name)) _ (λ passed. refl)
+  tag_goes true kind (Some tag) st t w k b s =
+      one u (ops.Spec (specs.TagAlone kind tag.token tag.name)) _ (λ passed. refl)
+  tag_goes false kind (Some tag) st t w k b s =
+      one u (ops.Spec (specs.TagUse kind tag.token tag.name)) _ (λ passed. refl)
 
   -- in a body of a tag
   abbrev bodied : State → TagKind → Begun → CType → Words → List Keyword → Bool → State
@@ -283,7 +278,8 @@ module _ (u : Spelling) where
       (between (bodied st kind (body_begun u kind keyword tag s) t w k (untagged_begins kind tag b))
       (body_begun u kind keyword tag s).names)
   body_goes kind keyword None st t w k b s = one u (ops.Spec (specs.Untagged kind keyword)) _ (λ passed. refl)
-  body_goes kind keyword (Some tag) st t w k b s = one u (ops.Spec (specs.TagBody kind tag.token tag.name)) _ (λ passed. refl)
+  body_goes kind keyword (Some tag) st t w k b s =
+      one u (ops.Spec (specs.TagBody kind tag.token tag.name)) _ (λ passed. refl)
 
   pub struct_none : (alone : Bool) → StructLaw alone no_body
   struct_none alone kind keyword tag st t w k b s = tag_goes alone kind tag st t w k b s
@@ -320,7 +316,8 @@ module _ (u : Spelling) where
   pub enum_none : (keyword : ℕ) (attrs : List Attr) (tag : Option Identifier)
       → EnumLaw (enum_of keyword attrs tag no_enum_body)
   enum_none keyword attrs None st t w k b s = stays u _
-  enum_none keyword attrs (Some tag) st t w k b s = one u (ops.Spec (specs.TagUse tags.Enum tag.token tag.name)) _ (λ passed. refl)
+  enum_none keyword attrs (Some tag) st t w k b s =
+      one u (ops.Spec (specs.TagUse tags.Enum tag.token tag.name)) _ (λ passed. refl)
 
   pub enum_some : (keyword : ℕ) (attrs : List Attr) (tag : Option Identifier) (opening : ℕ) (es : Enumerators)
       (last : Option ℕ) (closing : ℕ) → Says u (enumerators_tape es) (enumerators_named u es)
@@ -359,7 +356,8 @@ module _ (u : Spelling) where
           (λ ps s. type_named (place u (first_word ws)) (applied ps t) s))))
       named st s =
           rw (same_first ws)
-          (p st (base []) [] [] false s ▸ whole_declr d q st _ _ _ _ _ ▸ one u (ops.Declr (declrs.TypeName (first_word ws))) _ (λ passed. refl))
+          (p st (base []) [] [] false s ▸ whole_declr d q st _ _ _ _ _ ▸ one u
+          (ops.Declr (declrs.TypeName (first_word ws))) _ (λ passed. refl))
 
   -- a list without identifiers ends
   list_ends : (st : State) (t : CType) (k : List Keyword) (b : Bool) (name : Option Named) (m : CType)

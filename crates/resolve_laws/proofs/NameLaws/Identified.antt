@@ -75,11 +75,14 @@ module _ (u : Spelling) where
       if has_word keywords.Typedef k then record it { names = declared_some u (untagged_number b t) name k m it.names }
       else old_declared_some u own name (decayed m) it
 
-  old_param_goes : (name : Option Named) (st : State) (own : Option Place) (t : CType) (k : List Keyword) (b : Bool) (m : CType)
+  old_param_goes : (name : Option Named) (st : State) (own : Option Place) (t : CType) (k : List Keyword)
+      (b : Bool) (m : CType)
       (finished : List (List CType)) (it : Olds)
       → Goes u (declr declrs.OldParam) (declaring (olding st own it) t k b name m finished it.names)
-      (declaring (olding st own (old_one own k b t name m it)) t k false None t finished (old_one own k b t name m it).names)
-  old_param_goes name st own t k b m finished it = record { is = λ passed. by_typedef passed (has_word keywords.Typedef k) }
+      (declaring (olding st own (old_one own k b t name m it)) t k false None t finished
+      (old_one own k b t name m it).names)
+  old_param_goes name st own t k b m finished it =
+      record { is = λ passed. by_typedef passed (has_word keywords.Typedef k) }
     where
       typed : Olds
       typed = record it { names = declared_some u (untagged_number b t) name k m it.names }
@@ -91,13 +94,15 @@ module _ (u : Spelling) where
       ended it = declaring (olding st own it) t k false None t finished it.names
 
       by_typedef : (passed : List Op) (is : Bool)
-          → passed_on (ops.Declr declrs.OldParam) (if is then heard passed (ended typed) else heard passed (ended named))
+          → passed_on (ops.Declr declrs.OldParam)
+          (if is then heard passed (ended typed) else heard passed (ended named))
           ≡ heard (passed ++ declr declrs.OldParam) (ended (if is then typed else named))
       by_typedef passed true = refl
       by_typedef passed false = refl
 
   abbrev OldDeclrsLaw : InitDeclrs → Type 0
-  OldDeclrsLaw ds = (st : State) (own : Option Place) (t : CType) (k : List Keyword) (b : Bool) (finished : List (List CType))
+  OldDeclrsLaw ds =
+      (st : State) (own : Option Place) (t : CType) (k : List Keyword) (b : Bool) (finished : List (List CType))
       (it : Olds)
       → Goes u (old_declrs_tape ds) (declaring (olding st own it) t k b None t finished it.names)
       (declaring (olding st own (old_declrs_named u own k b t ds it)) t k (untagged_left ds b) None t finished
@@ -106,11 +111,13 @@ module _ (u : Spelling) where
   -- behind specifiers, by one test or by the other one
   old_behind_specs : (ws : SpecWords) (ds : InitDeclrs) (semi : ℕ) → OldDeclrsLaw ds
       → (are_auto ws ds ≡ true → AutoLaw u semi ds)
-      → (st : State) (own : Option Place) (t : CType) (k : List Keyword) (b : Bool) (finished : List (List CType)) (it : Olds)
+      → (st : State) (own : Option Place) (t : CType) (k : List Keyword) (b : Bool)
+      (finished : List (List CType)) (it : Olds)
       → Goes u (if tests.are_auto ws ds then auto_declrs_tape semi ds else old_declrs_tape ds)
       (declaring (olding st own it) t k b None t finished it.names)
       (declaring (olding st own (if are_auto ws ds then record it { names = auto_declrs_named u k b semi t ds it.names }
-      else old_declrs_named u own k b t ds it)) t k (if are_auto ws ds then false else untagged_left ds b) None t finished
+      else old_declrs_named u own k b t ds it)) t k
+      (if are_auto ws ds then false else untagged_left ds b) None t finished
       (if are_auto ws ds then record it { names = auto_declrs_named u k b semi t ds it.names }
       else old_declrs_named u own k b t ds it).names)
   old_behind_specs ws ds semi q r st own t k b finished it =
@@ -124,7 +131,9 @@ module _ (u : Spelling) where
           else old_declrs_named u own k b t ds it
 
       ended : Bool → State
-      ended is = declaring (olding st own (found is)) t k (if is then false else untagged_left ds b) None t finished (found is).names
+      ended is =
+          declaring (olding st own (found is)) t k (if is then false else untagged_left ds b) None t finished
+          (found is).names
 
       by_auto : (is : Bool) → are_auto ws ds ≡ is
           → Goes u (if is then auto_declrs_tape semi ds else old_declrs_tape ds)
@@ -164,9 +173,11 @@ module _ (u : Spelling) (left : ShapesAreLeft) (all : List Lexeme) where
   old_declrs_law (more_init_declrs attrs d asm_label attrs2 init ds) h st own t k b finished it =
       declr_law u left all false d h.1 (olding st own it) t k b finished it.names
       ▸ pieces_make u d None it.names (olding st own it) t k b (declared_name d) t finished found.names
-      ▸ old_param_goes u (declared_name d) st own t k b (applied found.pieces t) finished (record it { names = found.names })
+      ▸ old_param_goes u (declared_name d) st own t k b (applied found.pieces t) finished
+      (record it { names = found.names })
       ▸ inside u (some_init_law u left all init h.5) (olding st own declared) t k false None t finished declared.names
-      ▸ old_declrs_law ds h.6 st own t k false finished (record declared { names = some_init_named u init declared.names })
+      ▸ old_declrs_law ds h.6 st own t k false finished
+      (record declared { names = some_init_named u init declared.names })
     where
       found : Pieced
       found = declr_named u None d it.names
@@ -177,11 +188,11 @@ module _ (u : Spelling) (left : ShapesAreLeft) (all : List Lexeme) where
   old_declaration_goes : (d : Declaration) → IsDeclaration all d → (st : State) (own : Option Place) (it : Olds)
       → Goes u (old_declaration_tape d) (olding st own it) (olding st own (old_declaration_named u own d it))
   old_declaration_goes (declaration exts ws ds semi) h st own it =
-      rw (same_alone ws ds, same_said ws, same_untagged ws)
-      (specs_law u left all (is_tag_alone ws ds) ws h.1 (olding st own it) (base []) [] [] false it.names
-      ▸ old_behind_specs u ws ds semi (old_declrs_law ds h.3) (λ is. auto_law u left all semi ws ds (auto_is u ws ds is h.4) h.3)
-      st own specified.type (storage_behind ws []) (untagged_behind ws false) st.finished (record it { names = specified.names })
-      ▸ one u (ops.Declr declrs.DeclarationEnd) _ (λ passed. refl))
+      rw (same_alone ws ds, same_said ws, same_untagged ws) (specs_law u left all (is_tag_alone ws ds) ws h.1
+      (olding st own it) (base []) [] [] false it.names ▸ old_behind_specs u ws ds semi (old_declrs_law ds h.3)
+      (λ is. auto_law u left all semi ws ds (auto_is u ws ds is h.4) h.3) st own specified.type (storage_behind ws [])
+      (untagged_behind ws false) st.finished (record it { names = specified.names }) ▸ one u
+      (ops.Declr declrs.DeclarationEnd) _ (λ passed. refl))
     where
       specified : Typed
       specified = words_named u (is_tag_alone ws ds) ws (base []) [] it.names
@@ -215,7 +226,8 @@ module _ (u : Spelling) (left : ShapesAreLeft) (all : List Lexeme) where
   old_law ds hs (identifiers d opening names closing) h is st t k b finished s =
       rw (bare_same u d None s h.1)
       (arriving (declr_law u left all false d h.0 st t k b finished s)
-      (ap (λ (it : Pieced). declaring st t k b (declared_name d) t (lists_of it.pieces finished) it.names) (bare_same u d None s h.1))
+      (ap (λ (it : Pieced). declaring st t k b (declared_name d) t (lists_of it.pieces finished) it.names)
+      (bare_same u d None s h.1))
       ▸ one u (ops.Declr (declrs.ParamsBegin true)) _ (λ passed. refl)
       ▸ identifiers_go u names named own (record { list = []; names = enter s })
       ▸ old_declarations_go ds hs named own _
@@ -229,7 +241,8 @@ module _ (u : Spelling) (left : ShapesAreLeft) (all : List Lexeme) where
   old_law ds hs (pointer star words d) h is st t k b finished s =
       rw (lists_push (old_declr_named u (linked_some u (declared_name d) s) ds d s).pieces _ finished)
       (old_law ds hs d h.1 is st t k b finished s)
-  old_law ds hs (declr_paren opening attrs d closing) h is st t k b finished s = old_law ds hs d h.1 is st t k b finished s
+  old_law ds hs (declr_paren opening attrs d closing) h is st t k b finished s =
+      old_law ds hs d h.1 is st t k b finished s
   old_law ds hs (array d opening words size closing) h is st t k b finished s =
       rw (lists_push (old_declr_named u (linked_some u (declared_name d) s) ds d s).pieces _ finished)
       (old_law ds hs d h.0 is st t k b finished s

@@ -7,7 +7,7 @@ use Rattle.c_words.specs.declared.kinds.Keyword.{Keyword}
 use Rattle.c_words.specs.declared.kinds.Keyword.TheVariants as keywords
 use Rattle.c_tree.specs.declared.lexeme.Lexeme.{Lexeme}
 use Rattle.c_tree.specs.Tree.{SpecWords, Declr, pointer, declr_name, declr_paren, array, params, abs_pointer, abs_paren, abs_array, abs_params, identifiers, base_name, BlockItems, Declaration}
-use Rattle.c_tree.specs.WellFormed.{IsDeclr, AreSpecWords, AreBlockItems, is_bare_name, lists_identifiers}
+use Rattle.c_tree.specs.WellFormed.{IsDeclr, AreSpecWords, AreBlockItems, lists_identifiers}
 use Rattle.c_tree.specs.Unit.{Item, function_item, old_function_item, decl_item, asm_item, semi_item, is_round_name, IsItem}
 use Rattle.c_tree.specs.Specifiers.{storage_words}
 use Rattle.tape_ops.specs.declared.op.Op.{Op}
@@ -23,8 +23,8 @@ use Rattle.name_rules.specs.NameSteps.State.{State}
 use Rattle.name_rules.specs.NameSteps.Steps.{body_entered_by, linked_some}
 use Rattle.resolve_laws.specs.ShapeLaws.Laws.{ShapesAreLeft}
 use Rattle.type_rules.specs.Naming.{Typed, Pieced, with_typed, with_pieced, said_words, block_items_named, words_named, declr_named, old_declr_named, function_by, old_function_by, item_named, items_named}
-use Rattle.type_rules.specs.Tokens.{declared_name}
 use Rattle.c_tape.specs.Tape.{declr, stmt, specs_with, words_tape, block_items_tape, contents, old_contents, pieces, item_tape, tape_of}
+use Rattle.type_rules.proofs.Named.{listing_name, round_name}
 use Rattle.resolve_laws.proofs.NameLaws.Running.{between, declaring, Goes, ◌▸◌, one, arriving}
 use Rattle.resolve_laws.proofs.NameLaws.Saying.{Says, ◌>>◌, nothing}
 use Rattle.resolve_laws.proofs.NameLaws.Pieces.{applied_push, lists_of, Makes, pieces_make}
@@ -40,49 +40,6 @@ no_typedef (keywords.Typedef ∷ words) h =
     absurd (h (Contains-append_left (keywords.Typedef ∷ []) words keywords.Typedef (Contains-push [] keywords.Typedef)))
 no_typedef (word ∷ words) h =
     no_typedef words (λ there. h (Contains-append_right (word ∷ []) words keywords.Typedef there))
-
--- the name of a function's declarator
-pub name_of : (d : Declr) (above : Bool) → is_round_name d above ≡ true → (it : Named) × (declared_name d ≡ Some it)
-name_of (declr_name token name) above h = (record { token = token; name = name }, refl)
-name_of (declr_paren opening attrs d closing) above h = name_of d above h
-name_of (params d opening ps dots closing) above h = name_of d true h
-name_of (pointer star words d) above h = name_of d false h
-name_of (array d opening words size closing) above h = name_of d false h
-name_of (abs_pointer star words d) above h = absurd cc
-name_of (abs_paren opening attrs d closing) above h = absurd cc
-name_of (abs_array d opening words size closing) above h = absurd cc
-name_of (abs_params d opening ps dots closing) above h = absurd cc
-name_of (identifiers d opening names closing) above h = absurd cc
-name_of (base_name token) above h = absurd cc
-
--- a declarator that is no more than a name, in parentheses or not, declares one
-bare_name_of : (d : Declr) → is_bare_name d ≡ true → (it : Named) × (declared_name d ≡ Some it)
-bare_name_of (declr_name token name) h = (record { token = token; name = name }, refl)
-bare_name_of (declr_paren opening attrs d closing) h = bare_name_of d h
-bare_name_of (pointer star words d) h = absurd cc
-bare_name_of (array d opening words size closing) h = absurd cc
-bare_name_of (params d opening ps dots closing) h = absurd cc
-bare_name_of (abs_pointer star words d) h = absurd cc
-bare_name_of (abs_paren opening attrs d closing) h = absurd cc
-bare_name_of (abs_array d opening words size closing) h = absurd cc
-bare_name_of (abs_params d opening ps dots closing) h = absurd cc
-bare_name_of (identifiers d opening names closing) h = absurd cc
-bare_name_of (base_name token) h = absurd cc
-
--- the name before a list of identifiers
-old_name_of : (all : List Lexeme) (d : Declr) → IsDeclr all d → lists_identifiers d ≡ true
-    → (it : Named) × (declared_name d ≡ Some it)
-old_name_of all (identifiers d opening names closing) h is = bare_name_of d h.1
-old_name_of all (pointer star words d) h is = old_name_of all d h.1 is
-old_name_of all (declr_paren opening attrs d closing) h is = old_name_of all d h.1 is
-old_name_of all (array d opening words size closing) h is = old_name_of all d h.0 is
-old_name_of all (params d opening ps dots closing) h is = old_name_of all d h.0 is
-old_name_of all (declr_name token name) h is = absurd cc
-old_name_of all (base_name token) h is = absurd cc
-old_name_of all (abs_pointer star words d) h is = absurd cc
-old_name_of all (abs_paren opening attrs d closing) h is = absurd cc
-old_name_of all (abs_array d opening words size closing) h is = absurd cc
-old_name_of all (abs_params d opening ps dots closing) h is = absurd cc
 
 last_push : {A : Type 0} (o : Option A) (xs : List A) (x : A) → last_or o (xs ++ x ∷ []) ≡ Some x
 last_push o [] x = refl
@@ -184,7 +141,8 @@ module _ (u : Spelling) where
 
 module _ (u : Spelling) (left : ShapesAreLeft) (all : List Lexeme) where
   -- from the ops of its declarator's contents and of its pieces
-  function_goes : (ws : SpecWords) (contents_ops pieces_ops : List Op) (items : BlockItems) (it : Named) (found : Names → Pieced)
+  function_goes : (ws : SpecWords) (contents_ops pieces_ops : List Op) (items : BlockItems) (it : Named)
+      (found : Names → Pieced)
       → AreSpecWords all ws → AreBlockItems all items → has_word keywords.Typedef (storage_words ws) ≡ false
       → ((st : State) (t : CType) (k : List Keyword) (b : Bool) (finished : List (List CType)) (s : Names)
       → Goes u contents_ops (declaring st t k b None t finished s)
@@ -192,16 +150,19 @@ module _ (u : Spelling) (left : ShapesAreLeft) (all : List Lexeme) where
       → ((s : Names) → Makes u pieces_ops (found s).pieces)
       → ((s : Names) → MakeFunctions (found s).pieces)
       → (st : State) (s : Names)
-      → Goes u (specs_with (words_tape false ws) ++ contents_ops ++ pieces_ops ++ declr declrs.Declare ++ stmt stmts.FunctionBody
+      → Goes u
+      (specs_with (words_tape false ws) ++ contents_ops ++ pieces_ops ++ declr declrs.Declare ++ stmt stmts.FunctionBody
       ++ block_items_tape false items ++ stmt stmts.FunctionEnd ++ declr declrs.DeclarationEnd)
       (between st s) (between st (function_from u ws it found items s))
   function_goes ws contents_ops pieces_ops items it found hw hi untyped parts makes functions st s =
       rw (same_said ws)
-      (specs_law u left all false ws hw st (base []) [] [] false s ▸ parts st specified.type words b st.finished specified.names
+      (specs_law u left all false ws hw st (base []) []
+      [] false s ▸ parts st specified.type words b st.finished specified.names
       ▸ makes specified.names st specified.type words b (Some it) specified.type st.finished pieced.names
       ▸ declares ▸ begins ▸ inside u
       (block_items_law u left all false items hi) st specified.type words false None specified.type st.finished _
-      ▸ one u (ops.Stmt stmts.FunctionEnd) _ (λ passed. refl) ▸ one u (ops.Declr declrs.DeclarationEnd) _ (λ passed. refl))
+      ▸ one u (ops.Stmt stmts.FunctionEnd) _ (λ passed. refl) ▸ one u (ops.Declr declrs.DeclarationEnd) _
+      (λ passed. refl))
     where
       words : List Keyword
       words = storage_behind ws []
@@ -242,7 +203,8 @@ module _ (u : Spelling) (left : ShapesAreLeft) (all : List Lexeme) where
       begins : Goes u (stmt stmts.FunctionBody)
           (declaring st specified.type words false None specified.type st.finished declared)
           (declaring st specified.type words false None specified.type st.finished
-          (body_entered at (linked name at pieced.names) (not (has_word keywords.Inline words)) (is_counted_by u.wide words) declared))
+          (body_entered at (linked name at pieced.names) (not (has_word keywords.Inline words))
+          (is_counted_by u.wide words) declared))
       begins = arriving (one u (ops.Stmt stmts.FunctionBody) _ (λ passed. refl))
           (ap (λ (s : Names). declaring st specified.type words false None specified.type st.finished s)
           (body_begins u words (not (has_word keywords.Inline words)) (is_counted_by u.wide words) at name made
@@ -250,37 +212,34 @@ module _ (u : Spelling) (left : ShapesAreLeft) (all : List Lexeme) where
 
   item_law : (item : Item) → IsItem all item → Says u (item_tape item) (item_named u item)
   item_law (function_item exts ws d attrs opening items closing) h =
-      let named = name_of d false h.5 in
+      let named = round_name d false h.5 in
       record {
         goes = λ st s. subst (λ (n : Option Named). Goes u
             (item_tape (function_item exts ws d attrs opening items closing)) (between st s)
-            (between st (function_by u n ws d items s)))
-            (sym named.1) (function_goes ws (contents true d) (pieces d) items named.0 (λ s. declr_named u (own named.0 s) d s)
-            h.1 h.7 (no_typedef (storage_words ws) h.3)
-            (λ st t k b finished s. subst (λ (n : Option Named). Goes u (contents true d) (declaring st t k b None t finished s)
-            (declaring st t k b n t (lists_of (declr_named u (linked_some u n s) d s).pieces finished)
-            (declr_named u (linked_some u n s) d s).names)) named.1 (declr_law u left all true d h.4 st t k b finished s))
-            (λ s. pieces_make u d (own named.0 s) s)
+            (between st (function_by u n ws d items s))) (sym named.1) (function_goes ws (contents true d)
+            (pieces d) items named.0 (λ s. declr_named u (own named.0 s) d s) h.1 h.7
+            (no_typedef (storage_words ws) h.3) (λ st t k b finished s. subst (λ (n : Option Named). Goes u
+            (contents true d) (declaring st t k b None t finished s) (declaring st t k b n t (lists_of
+            (declr_named u (linked_some u n s) d s).pieces finished) (declr_named u (linked_some u n s) d s).names))
+            named.1 (declr_law u left all true d h.4 st t k b finished s)) (λ s. pieces_make u d (own named.0 s) s)
             (λ s. not_none (function_made u d false (own named.0 s) s h.5)) st s);
       }
     where
       own : Named → Names → Option Place
       own it s = Some (linked (u.key it.name) (place u it.token) s)
   item_law (old_function_item exts ws d attrs ds opening items closing) h =
-      let named = old_name_of all d h.4 h.5 in
+      let named = listing_name all d h.4 h.5 in
       record {
         goes = λ st s. subst (λ (n : Option Named). Goes u
             (item_tape (old_function_item exts ws d attrs ds opening items closing)) (between st s)
-            (between st (old_function_by u n ws d ds items s)))
-            (sym named.1) (function_goes ws (old_contents ds d) (pieces d) items named.0
-            (λ s. old_declr_named u (own named.0 s) ds d s)
-            h.1 h.8 (no_typedef (storage_words ws) h.3)
-            (λ st t k b finished s. subst (λ (n : Option Named). Goes u (old_contents ds d) (declaring st t k b None t finished s)
+            (between st (old_function_by u n ws d ds items s))) (sym named.1) (function_goes ws (old_contents ds d)
+            (pieces d) items named.0 (λ s. old_declr_named u (own named.0 s) ds d s) h.1 h.8
+            (no_typedef (storage_words ws) h.3) (λ st t k b finished s. subst
+            (λ (n : Option Named). Goes u (old_contents ds d) (declaring st t k b None t finished s)
             (declaring st t k b n t (lists_of (old_declr_named u (linked_some u n s) ds d s).pieces finished)
             (old_declr_named u (linked_some u n s) ds d s).names)) named.1
-            (old_law u left all ds h.7 d h.4 h.5 st t k b finished s))
-            (λ s. old_pieces_make u ds d (own named.0 s) s h.5)
-            (λ s. old_function_made u all ds d (own named.0 s) s h.4 h.5) st s);
+            (old_law u left all ds h.7 d h.4 h.5 st t k b finished s)) (λ s. old_pieces_make u ds d
+            (own named.0 s) s h.5) (λ s. old_function_made u all ds d (own named.0 s) s h.4 h.5) st s);
       }
     where
       own : Named → Names → Option Place

@@ -160,7 +160,8 @@ module _ (u : Spelling) where
           (declaring st t storage b name m (listed_behind [] ts ∷ finished) s)
           (declaring st t storage b name (function [] ts (decayed m) (ellipsis u ps dots)) finished s)
       by_form ps (Some dots) =
-          quals_goes dots.quals (declaring st t storage b name m (listed_behind [] ts ∷ finished) s) (base []) [] [] false s
+          quals_goes dots.quals (declaring st t storage b name m (listed_behind [] ts ∷ finished) s)
+          (base []) [] [] false s
           ▸ with_types true _ _ refl
       by_form no_params None = with_types true _ [] refl
       by_form (more_params ws d attrs ps) None = with_types false _ [] refl
@@ -184,7 +185,8 @@ module _ (u : Spelling) where
         one_more (some_declr_named u d s).pieces _ (function_makes ps dots _) (some_pieces_make d s)
     pieces_make (identifiers d opening names closing) own s =
         one_more (declr_named u own d s).pieces (to_function no_types None)
-        (λ st t storage b name m finished s. one u (ops.Declr (declrs.Function false)) _ (λ passed. refl)) (pieces_make d own s)
+        (λ st t storage b name m finished s. one u (ops.Declr (declrs.Function false)) _ (λ passed. refl))
+        (pieces_make d own s)
     pieces_make (base_name token) own s = makes_none
 
     pub some_pieces_make : (d : SomeDeclr) (s : Names) → Makes (some_pieces d) (some_declr_named u d s).pieces

@@ -24,8 +24,10 @@ all_sources : NamesAreSteps → (sources : List Source) (s : Names) → All IsSo
     → tapes_named (map tape_of_source sources) s ≡ sources_named sources s
 all_sources steps [] s h = refl
 all_sources steps (it ∷ sources) s h =
-    ap (tapes_named (map tape_of_source sources)) (one_source steps it (unit_begun it.spelling.unit s) (All-head IsSound it sources h))
-    ∙ all_sources steps sources (items_named it.spelling it.items (unit_begun it.spelling.unit s)) (All-tail IsSound it sources h)
+    ap (tapes_named (map tape_of_source sources))
+    (one_source steps it (unit_begun it.spelling.unit s) (All-head IsSound it sources h))
+    ∙ all_sources steps sources (items_named it.spelling it.items (unit_begun it.spelling.unit s))
+    (All-tail IsSound it sources h)
 
 pub names_found : NamesAreSteps → NamesOfTapes
 names_found steps sources h = all_sources steps sources no_names h

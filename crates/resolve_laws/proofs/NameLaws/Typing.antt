@@ -72,7 +72,8 @@ module _ (u : Spelling) where
       → ((passed : List Op) → names_step u (heard passed (reading st outer s)) first
       ≡ heard passed (between (parted st outer (length passed)) s))
       → Says u tape f
-      → ((passed : List Op) → names_step u (heard ((passed ++ first ∷ []) ++ tape) (between (parted st outer (length passed)) (f s))) last
+      → ((passed : List Op)
+      → names_step u (heard ((passed ++ first ∷ []) ++ tape) (between (parted st outer (length passed)) (f s))) last
       ≡ heard ((passed ++ first ∷ []) ++ tape) after)
       → Goes u (first ∷ (tape ++ last ∷ [])) (reading st outer s) after
   part_goes first last tape f st after outer s begins p ends = record { is = gone }
@@ -116,7 +117,8 @@ module _ (u : Spelling) where
       → SpecsLaw u false ws → SomeDeclrLaw u d → WordLaw u alone (typeof_type word opening ws d closing)
   word_typeof_type alone word opening ws d closing p q st t w k b s =
       part_goes (ops.Spec specs.PartBegin) (ops.Spec specs.TypeEnd) _ named st after outer s (λ passed. refl)
-      (type_name_says u ws d p q) (λ passed. ap (λ (it : Option TypeNamed). heard ((passed ++ ops.Spec specs.PartBegin ∷ [])
+      (type_name_says u ws d p q) (λ passed.
+      ap (λ (it : Option TypeNamed). heard ((passed ++ ops.Spec specs.PartBegin ∷ [])
       ++ type_name_with (words_tape false ws) (some_declr_tape d) (tokens.first_word ws))
       (among_words st (steps.type_or t it) w k b (named s))) (last_push None found.names.type_names it))
     where
@@ -143,7 +145,8 @@ module _ (u : Spelling) (left : ShapesAreLeft) where
   -- the shape that the ops of a part leave
   shape_of_ops : (first : Op) (e : Expr) (s : Names) (passed : List Op) (st : State) (outer : Specifiers)
       → shapes.step u s nothing first ≡ nothing
-      → shape_of_part u (heard ((passed ++ first ∷ []) ++ tape_in false false e) (between (parted st outer (length passed)) s))
+      → shape_of_part u
+      (heard ((passed ++ first ∷ []) ++ tape_in false false e) (between (parted st outer (length passed)) s))
       ≡ shape_of u s e
   shape_of_ops first e s passed st outer none =
       ap (λ (tape : List Op). shape_at 0 (shapes.run u s nothing tape)) (own_ops passed (tape_in false false e) first)
@@ -153,10 +156,9 @@ module _ (u : Spelling) (left : ShapesAreLeft) where
   pub word_typeof : (alone : Bool) (keyword opening : ℕ) (e : Expr) (closing : ℕ)
       → Says u (tape_in false false e) (expr_named u false e) → WordLaw u alone (typeof_value keyword opening e closing)
   word_typeof alone keyword opening e closing p st t w k b s =
-      one u (ops.Stmt stmts.Quiet) _ (λ passed. refl)
-      ▸ part_goes u (ops.Spec specs.PartBegin) (ops.Spec (specs.TypeofEnd closing)) (tape_in false false e) (expr_named u false e)
-      st (typed (shape_of u known e).type) outer s (λ passed. refl) p ends
-      ▸ one u (ops.Stmt stmts.Loud) _ (λ passed. refl)
+      one u (ops.Stmt stmts.Quiet) _ (λ passed. refl) ▸ part_goes u (ops.Spec specs.PartBegin)
+      (ops.Spec (specs.TypeofEnd closing)) (tape_in false false e) (expr_named u false e) st
+      (typed (shape_of u known e).type) outer s (λ passed. refl) p ends ▸ one u (ops.Stmt stmts.Loud) _ (λ passed. refl)
     where
       outer : Specifiers
       outer = record { type = t; words = w; storage = k; is_untagged = b }
@@ -185,8 +187,10 @@ module _ (u : Spelling) (left : ShapesAreLeft) where
       → Goes u (auto_init_tape semi (some_init equal (init_value e))) (declaring st t k b name m finished s)
       (declaring st t k false None t finished (auto_named u k b semi t name (some_init equal (init_value e)) s))
   auto_goes e semi p st t k b name m finished s equal =
-      part_goes u (ops.Declr declrs.AutoBegin) (ops.Declr (declrs.AutoEnd semi)) (tape_in false false e) (expr_named u false e)
-      (declaring st t k b name m finished s) (typed (value (shape_of u known e))) no_specifiers s (λ passed. refl) p ends
+      part_goes u (ops.Declr declrs.AutoBegin) (ops.Declr (declrs.AutoEnd semi)) (tape_in false false e)
+      (expr_named u false e)
+      (declaring st t k b name m finished s) (typed (value (shape_of u known e))) no_specifiers s
+      (λ passed. refl) p ends
       ▸ one u (ops.Init (inits.Value _ _)) _ (λ passed. refl)
     where
       known : Names
@@ -200,26 +204,30 @@ module _ (u : Spelling) (left : ShapesAreLeft) where
           → names_step u (heard ((passed ++ ops.Declr declrs.AutoBegin ∷ []) ++ tape_in false false e)
           (between (parted (declaring st t k b name m finished s) no_specifiers (length passed)) known))
           (ops.Declr (declrs.AutoEnd semi))
-          ≡ heard ((passed ++ ops.Declr declrs.AutoBegin ∷ []) ++ tape_in false false e) (typed (value (shape_of u known e)))
+          ≡ heard ((passed ++ ops.Declr declrs.AutoBegin ∷ []) ++ tape_in false false e)
+          (typed (value (shape_of u known e)))
       ends passed =
           ap (λ (it : Shape). heard ((passed ++ ops.Declr declrs.AutoBegin ∷ []) ++ tape_in false false e)
           (declaring st t k false None t finished (declared_some u (untagged_number b t) name k
           (with_words (words_of t) (bare_or_base (value it)))
           (with_faults (fault_where (is_unknown (value it)) (place u semi) no_type) known))))
-          (shape_of_ops (ops.Declr declrs.AutoBegin) e known passed (declaring st t k b name m finished s) no_specifiers refl)
+          (shape_of_ops (ops.Declr declrs.AutoBegin) e known passed
+          (declaring st t k b name m finished s) no_specifiers refl)
           ∙ ap (heard ((passed ++ ops.Declr declrs.AutoBegin ∷ []) ++ tape_in false false e))
           (auto_same u semi (value (shape_of u known e)) t k b name st finished known)
 
   -- a base word in place of a name declares nothing
   pub auto_base : (attrs attrs2 : List Attr) (token : ℕ) (equal semi : ℕ) (e : Expr)
       → Says u (tape_in false false e) (expr_named u false e)
-      → AutoLaw u semi (more_init_declrs attrs (base_name token) None attrs2 (some_init equal (init_value e)) no_init_declrs)
+      → AutoLaw u semi
+      (more_init_declrs attrs (base_name token) None attrs2 (some_init equal (init_value e)) no_init_declrs)
   auto_base attrs attrs2 token equal semi e p st t k b finished s =
       stays u _ ▸ auto_goes e semi p st t k b None t finished s equal ▸ stays u _
 
   pub auto_one : (attrs attrs2 : List Attr) (token name : ℕ) (equal semi : ℕ) (e : Expr)
       → Says u (tape_in false false e) (expr_named u false e)
-      → AutoLaw u semi (more_init_declrs attrs (declr_name token name) None attrs2 (some_init equal (init_value e)) no_init_declrs)
+      → AutoLaw u semi
+      (more_init_declrs attrs (declr_name token name) None attrs2 (some_init equal (init_value e)) no_init_declrs)
   auto_one attrs attrs2 token name equal semi e p st t k b finished s =
       one u (ops.Declr (declrs.DeclName token name)) _ (λ passed. refl)
       ▸ auto_goes e semi p st t k b (Some (record { token = token; name = name })) t finished s equal

@@ -1,5 +1,6 @@
 -- The tape of each part of a unit says of names what the part says, by induction on the tree.
 use Rattle.std.proofs.Common.{◌≡◌, ℕ, Bool, true, false, if◌then◌else◌, List, [], None, refl, sym, ap, subst}
+use Rattle.qual_base.proofs.Tests.{and_first}
 use Rattle.c_tree.specs.Tree.{Expr, operation, cast, prefix, sizeof_value, sizeof_type, extension, index, call, dot, arrow, post, compound, name_use, number_use, char_use, text_use, paren, statement_expr, va_arg, va_start, va_copy, offset, Operator, comma, assign, cond, binary, SomeExpr, no_expr, some_expr, Exprs, no_exprs, more_exprs, SpecWords, no_words, more_words, SpecWord, storage, thread, inline_word, noreturn, qualifier, basic, struct_type, enum_type, typedef_name, attribute, SomeBody, no_body, some_body, StructItems, no_struct_items, more_struct_items, StructItem, member, member_semi, member_assert, MemDeclrs, no_mem_declrs, more_mem_declrs, MemDeclr, named, unnamed, SomeValue, no_value, some_value, EnumType, enum_of, no_enum_body, some_enum_body, Enumerators, no_enumerators, more_enumerators, Declr, pointer, declr_name, declr_paren, array, params, abs_pointer, abs_paren, abs_array, abs_params, SomeDeclr, no_declr, some_declr, SomeSize, no_size, some_size, ArraySize, size_value, size_star, Params, no_params, more_params, Init, init_value, init_braced, InitList, init_list, InitItems, no_init_items, more_init_items, Desigs, no_desigs, more_desigs, Desig, member_desig, index_desig, SomeInit, no_init, some_init, InitDeclrs, no_init_declrs, more_init_declrs, Declaration, declaration, Decl, decl_declaration, decl_assert, BlockItems, no_block_items, more_block_items, BlockItem, block_decl, block_stmt, Stmt, block, expr_stmt, attr_stmt, label, case_stmt, default_stmt, if_stmt, switch_stmt, while_stmt, do_stmt, for_stmt, goto_stmt, continue_stmt, break_stmt, return_stmt, asm_stmt, SomeElse, no_else, some_else, ForStart, start_declaration, start_value, typeof_value, typeof_type, align, auto_word, complex_part, label_use, compat, choose, generic, Assocs, no_assocs, more_assocs, Assoc, typed_assoc, default_assoc, range_desig, old_desig, case_range, goto_value, block_labels, identifiers, base_name}
 use Rattle.c_words.specs.declared.kinds.Keyword.TheVariants as keywords
 use Rattle.c_words.specs.declared.kinds.Punct.{Punct}
@@ -30,7 +31,7 @@ use Rattle.resolve_laws.proofs.NameLaws.Agreeing.{same_alone, same_auto}
 use Rattle.resolve_laws.proofs.NameLaws.Pieces.{qual_goes}
 use Rattle.resolve_laws.proofs.NameLaws.Storage.{same_said, same_untagged}
 use Rattle.resolve_laws.proofs.NameLaws.Typing.{AutoLaw, word_typeof, word_typeof_type, auto_base, auto_one}
-use Rattle.resolve_laws.proofs.NameLaws.Forms.{and_left, untagged_left, declr_identifiers, declr_base_name, storage_behind, untagged_behind, WordLaw, SpecsLaw, StructLaw, ItemsLaw, ItemLaw, MembersLaw, MemberLaw, EnumLaw, DeclrLaw, SomeDeclrLaw, ParamsLaw, DeclrsLaw, specs_none, specs_more, struct_none, struct_some, word_struct, word_basic, enumerator_says, enum_none, enum_some, type_name_says, declr_params, declr_abs_params, declr_pointer, declr_array, declr_abs_pointer, declr_abs_array, declr_of_name, params_none, params_more, members_none, members_more, member_named, member_unnamed, item_member, declrs_none, declrs_more}
+use Rattle.resolve_laws.proofs.NameLaws.Forms.{untagged_left, declr_identifiers, declr_base_name, storage_behind, untagged_behind, WordLaw, SpecsLaw, StructLaw, ItemsLaw, ItemLaw, MembersLaw, MemberLaw, EnumLaw, DeclrLaw, SomeDeclrLaw, ParamsLaw, DeclrsLaw, specs_none, specs_more, struct_none, struct_some, word_struct, word_basic, enumerator_says, enum_none, enum_some, type_name_says, declr_params, declr_abs_params, declr_pointer, declr_array, declr_abs_pointer, declr_abs_array, declr_of_name, params_none, params_more, members_none, members_more, member_named, member_unnamed, item_member, declrs_none, declrs_more}
 
 module _ (u : Spelling) where
   -- what says nothing of names
@@ -83,7 +84,7 @@ module _ (u : Spelling) where
       → IsAutoDeclr ws ds
   auto_is ws ds is where_auto =
       let has : IsAutoWhere true ws ds =
-      subst (λ (b : Bool). IsAutoWhere b ws ds) (and_left (has_auto ws) _ is) where_auto in has
+      subst (λ (b : Bool). IsAutoWhere b ws ds) (and_first (has_auto ws) _ is) where_auto in has
 
   -- behind specifiers, by one test or by the other one
   behind_specs : (ws : SpecWords) (ds : InitDeclrs) (semi : ℕ) → DeclrsLaw u ds
@@ -127,13 +128,15 @@ module _ (u : Spelling) (left : ShapesAreLeft) (all : List Lexeme) where
     expr_law called aims (operation a op token b) h =
         expr_law false false a h.0 >> middle_law op h.3 >> expr_law false false b h.1 >> operator_says u op token _ _
     expr_law called aims (cast opening ws d closing e) h =
-        type_name_says u ws d (type_words_law ws h.1) (abstract_law d h.2) >> expr_law false false e h.3 >> form_says u (forms.Cast opening _)
+        type_name_says u ws d (type_words_law ws h.1) (abstract_law d h.2) >> expr_law false false e h.3 >> form_says u
+        (forms.Cast opening _)
     expr_law called aims (prefix token p e) h =
         prefix_says u token p e aims (expr_law false true e h.0) (expr_law false false e h.0)
     expr_law called aims (sizeof_value word e) h =
         stmt_says u stmts.Quiet (λ st. refl) >> expr_law false false e h.0 >> form_says u (forms.Sizeof word.token)
     expr_law called aims (sizeof_type word opening ws d closing) h =
-        stmt_says u stmts.Quiet (λ st. refl) >> type_name_says u ws d (type_words_law ws h.1) (abstract_law d h.2) >> form_says u (forms.Sizeof word.token)
+        stmt_says u stmts.Quiet (λ st. refl) >> type_name_says u ws d (type_words_law ws h.1)
+        (abstract_law d h.2) >> form_says u (forms.Sizeof word.token)
     expr_law called aims (extension keyword e) h =
         expr_law false aims e h.0 >> expr_says u (exprs.Ext keyword) (λ st. refl)
     expr_law called aims (index a opening b closing) h =
@@ -150,7 +153,8 @@ module _ (u : Spelling) (left : ShapesAreLeft) (all : List Lexeme) where
     expr_law called aims (post e token p) h =
         expr_law false false e h.0 >> expr_says u (exprs.Post p token _) (λ st. refl)
     expr_law called aims (compound opening ws d closing list) h =
-        type_name_says u ws d (type_words_law ws h.1) (abstract_law d h.2) >> init_says u inits.Begin >> list_law list h.3
+        type_name_says u ws d (type_words_law ws h.1)
+        (abstract_law d h.2) >> init_says u inits.Begin >> list_law list h.3
         >> init_says u (inits.Literal opening) >> rule_list_says u list >> init_says u inits.LiteralEnd
     expr_law called aims (name_use token name) h = name_says u called token name
     expr_law called aims (number_use token) h = expr_says u (exprs.Number token) (λ st. refl)
@@ -161,7 +165,8 @@ module _ (u : Spelling) (left : ShapesAreLeft) (all : List Lexeme) where
     expr_law called aims (statement_expr opening opening2 items closing closing2) h =
         in_scope_says (block_items_law true items h.0) >> form_says u (forms.StmtExpr _ opening)
     expr_law called aims (va_arg keyword opening e separator ws d closing) h =
-        expr_law false false e h.0 >> type_name_says u ws d (type_words_law ws h.2) (abstract_law d h.3) >> form_says u (forms.VaArg keyword closing)
+        expr_law false false e h.0 >> type_name_says u ws d (type_words_law ws h.2) (abstract_law d h.3) >> form_says u
+        (forms.VaArg keyword closing)
     expr_law called aims (va_start keyword opening a separator b closing) h =
         expr_law false false a h.0 >> expr_law false false b h.1 >> form_says u (forms.VaStart keyword closing)
     expr_law called aims (va_copy keyword opening a separator b closing) h =
@@ -174,7 +179,8 @@ module _ (u : Spelling) (left : ShapesAreLeft) (all : List Lexeme) where
         expr_law false aims e h.0 >> expr_says u (exprs.Ext keyword) (λ st. refl)
     expr_law called aims (label_use token name) h = expr_says u (exprs.Label token) (λ st. refl)
     expr_law called aims (compat keyword opening ws d separator ws2 d2 closing) h =
-        stmt_says u stmts.Quiet (λ st. refl) >> type_name_says u ws d (type_words_law ws h.1) (abstract_law d h.2) >> type_name_says u ws2 d2 (type_words_law ws2 h.4) (abstract_law d2 h.5)
+        stmt_says u stmts.Quiet (λ st. refl) >> type_name_says u ws d (type_words_law ws h.1)
+        (abstract_law d h.2) >> type_name_says u ws2 d2 (type_words_law ws2 h.4) (abstract_law d2 h.5)
         >> form_says u (forms.Compat keyword)
     expr_law called aims (choose keyword opening e separator a separator2 b closing) h =
         quietly_says (expr_law false false e h.0) >> expr_law false false a h.1 >> expr_law false false b h.2
@@ -201,7 +207,8 @@ module _ (u : Spelling) (left : ShapesAreLeft) (all : List Lexeme) where
     assocs_law (more_assocs x xs) h = assoc_law x h.0 >> assocs_law xs h.1
 
     assoc_law : (x : Assoc) → IsAssoc all x → Says u (assoc_tape x) (assoc_named u x)
-    assoc_law (typed_assoc ws d colon e) h = type_name_says u ws d (type_words_law ws h.1) (abstract_law d h.2) >> expr_law false false e h.3
+    assoc_law (typed_assoc ws d colon e) h =
+        type_name_says u ws d (type_words_law ws h.1) (abstract_law d h.2) >> expr_law false false e h.3
     assoc_law (default_assoc keyword colon e) h = form_says u forms.NoType >> expr_law false false e h.0
 
     middle_law : (op : Operator) → IsMiddle all op → Says u (middle_tape op) (operator_named u op)
@@ -234,16 +241,19 @@ module _ (u : Spelling) (left : ShapesAreLeft) (all : List Lexeme) where
 
     pub specs_law : (alone : Bool) (ws : SpecWords) → AreSpecWords all ws → SpecsLaw u alone ws
     specs_law alone no_words h = specs_none u alone
-    specs_law alone (more_words word ws) h = specs_more u alone word ws (word_law alone word h.0) (specs_law alone ws h.1)
+    specs_law alone (more_words word ws) h =
+        specs_more u alone word ws (word_law alone word h.0) (specs_law alone ws h.1)
 
     word_law : (alone : Bool) (word : SpecWord) → IsSpecWord all word → WordLaw u alone word
     word_law alone (storage word) h = λ st t w k b s. one u (ops.Spec (specs.Storage word.keyword)) _ (λ passed. refl)
     word_law alone (thread token) h = λ st t w k b s. stays u _
-    word_law alone (inline_word token) h = λ st t w k b s. one u (ops.Spec (specs.Storage keywords.Inline)) _ (λ passed. refl)
+    word_law alone (inline_word token) h =
+        λ st t w k b s. one u (ops.Spec (specs.Storage keywords.Inline)) _ (λ passed. refl)
     word_law alone (noreturn token) h = λ st t w k b s. stays u _
     word_law alone (qualifier q) h = λ st t w k b s. qual_goes u q st t w k b s
     word_law alone (basic word) h = word_basic u alone word
-    word_law alone (struct_type word attrs tag body) h = word_struct u alone word attrs tag body (struct_law alone body h.3)
+    word_law alone (struct_type word attrs tag body) h =
+        word_struct u alone word attrs tag body (struct_law alone body h.3)
     word_law alone (enum_type e) h = enum_law e h
     word_law alone (typedef_name name) h =
         λ st t w k b s. one u (ops.Spec (specs.Typedef name.token name.name)) _ (λ passed. refl)
@@ -368,13 +378,16 @@ module _ (u : Spelling) (left : ShapesAreLeft) (all : List Lexeme) where
     init_declrs_law : (ds : InitDeclrs) → AreInitDeclrs all ds → DeclrsLaw u ds
     init_declrs_law no_init_declrs h = declrs_none u
     init_declrs_law (more_init_declrs attrs d asm_label attrs2 i ds) h =
-        declrs_more u attrs d asm_label attrs2 i ds (declr_law false d h.1) (some_init_law i h.5) (init_declrs_law ds h.6)
+        declrs_more u attrs d asm_label attrs2 i ds (declr_law false d h.1) (some_init_law i h.5)
+        (init_declrs_law ds h.6)
 
     pub auto_law : (semi : ℕ) (ws : SpecWords) (ds : InitDeclrs) → IsAutoDeclr ws ds → AreInitDeclrs all ds
         → AutoLaw u semi ds
-    auto_law semi ws (more_init_declrs attrs (declr_name token name) None attrs2 (some_init equal (init_value e)) no_init_declrs) is h =
+    auto_law semi ws (more_init_declrs attrs (declr_name token name) None attrs2
+        (some_init equal (init_value e)) no_init_declrs) is h =
         auto_one u left attrs attrs2 token name equal semi e (expr_law false false e h.5.0)
-    auto_law semi ws (more_init_declrs attrs (base_name token) None attrs2 (some_init equal (init_value e)) no_init_declrs) is h =
+    auto_law semi ws
+        (more_init_declrs attrs (base_name token) None attrs2 (some_init equal (init_value e)) no_init_declrs) is h =
         auto_base u left attrs attrs2 token equal semi e (expr_law false false e h.5.0)
     auto_law semi ws _ is h = absurd is
 
@@ -406,16 +419,21 @@ module _ (u : Spelling) (left : ShapesAreLeft) (all : List Lexeme) where
     stmt_law kept (case_stmt keyword e colon t) h = quietly_says (expr_law false false e h.0) >> stmt_law false t h.2
     stmt_law kept (default_stmt keyword colon t) h = stmt_law false t h
     stmt_law kept (if_stmt keyword opening e closing t other) h =
-        in_scope_says (expr_law false false e h.0 >> stmt_says u stmts.Pop (λ st. refl) >> in_scope_says (stmt_law false t h.1)
+        in_scope_says
+        (expr_law false false e h.0 >> stmt_says u stmts.Pop (λ st. refl) >> in_scope_says (stmt_law false t h.1)
         >> some_else_law t other h.2)
     stmt_law kept (switch_stmt keyword opening e closing t) h =
-        in_scope_says (expr_law false false e h.0 >> stmt_says u stmts.Pop (λ st. refl) >> in_scope_says (stmt_law false t h.1))
+        in_scope_says
+        (expr_law false false e h.0 >> stmt_says u stmts.Pop (λ st. refl) >> in_scope_says (stmt_law false t h.1))
     stmt_law kept (while_stmt keyword opening e closing t) h =
-        in_scope_says (expr_law false false e h.0 >> stmt_says u stmts.Pop (λ st. refl) >> in_scope_says (stmt_law false t h.1))
+        in_scope_says
+        (expr_law false false e h.0 >> stmt_says u stmts.Pop (λ st. refl) >> in_scope_says (stmt_law false t h.1))
     stmt_law kept (do_stmt keyword t keyword2 opening e closing semi) h =
-        in_scope_says (in_scope_says (stmt_law false t h.0) >> expr_law false false e h.1 >> stmt_says u stmts.Pop (λ st. refl))
+        in_scope_says
+        (in_scope_says (stmt_law false t h.0) >> expr_law false false e h.1 >> stmt_says u stmts.Pop (λ st. refl))
     stmt_law kept (for_stmt keyword opening start e semi e2 closing t) h =
-        in_scope_says (for_start_law start h.0 >> dropped_law e h.1 >> dropped_law e2 h.2 >> in_scope_says (stmt_law false t h.3))
+        in_scope_says
+        (for_start_law start h.0 >> dropped_law e h.1 >> dropped_law e2 h.2 >> in_scope_says (stmt_law false t h.3))
     stmt_law kept (goto_stmt keyword name semi) h = nothing u
     stmt_law kept (continue_stmt keyword semi) h = nothing u
     stmt_law kept (break_stmt keyword semi) h = nothing u

@@ -1,22 +1,20 @@
 -- Tapes that change no stack and find no fault, and parts of tapes that are said in two ways.
 use Rattle.std.proofs.Common.{◌≡◌, ℕ, suc, Bool, true, false, List, [], ◌∷◌, ◌++◌, Option, None, Some, refl, ap, arith}
-use Rattle.std.specs.Prelude.{◌&&◌, if◌then◌else◌}
+use Rattle.std.specs.Prelude.{if◌then◌else◌}
+use Rattle.qual_base.proofs.Tests.{and_second, and_first}
 use Rattle.c_syntax.specs.declared.parts.Identifier.{Identifier}
 use Rattle.c_syntax.specs.declared.parts.Qual.{Qual}
-use Rattle.c_syntax.specs.declared.parts.Qual.TheVariants as quals
 use Rattle.c_syntax.specs.declared.parts.PointerWord.{PointerWord}
 use Rattle.c_syntax.specs.declared.parts.PointerWord.TheVariants as pointer_words
 use Rattle.c_syntax.specs.declared.parts.ArrayWord.{ArrayWord}
 use Rattle.c_syntax.specs.declared.parts.ArrayWord.TheVariants as array_words
 use Rattle.tape_ops.specs.declared.op.Op.{Op}
 use Rattle.tape_ops.specs.declared.specifier.TagKind.{TagKind}
-use Rattle.c_tree.specs.Tree.{Exprs, no_exprs, more_exprs, SpecWords, no_words, more_words, SpecWord, storage, thread, inline_word, noreturn, qualifier, basic, struct_type, enum_type, typedef_name, attribute, EnumType, enum_of, Declr, pointer, declr_name, declr_paren, array, params, abs_pointer, abs_paren, abs_array, abs_params, SomeDeclr, no_declr, some_declr, Params, no_params, more_params, Dots, identifiers, base_name, typeof_value, typeof_type, align, auto_word}
-use Rattle.c_tree.specs.Firsts as tape_tokens
+use Rattle.c_tree.specs.Tree.{Exprs, no_exprs, more_exprs, SpecWords, no_words, more_words, SpecWord, storage, thread, inline_word, noreturn, qualifier, basic, struct_type, enum_type, typedef_name, attribute, Declr, pointer, declr_name, declr_paren, array, params, abs_pointer, abs_paren, abs_array, abs_params, SomeDeclr, no_declr, some_declr, Params, no_params, more_params, Dots, identifiers, base_name, typeof_value, typeof_type, align, auto_word}
 use Rattle.c_tape.specs.Tests.{is_bare_word, is_bare, says_none}
 use Rattle.c_tape.specs.Tape.{pointer_words_tape, pointer_word_tape, array_words_tape, array_word_tape, quals_tape, dots_tape, pieces, some_pieces, unnamed_tape, unnamed_word_tape, identifiers_tape, arguments, tag_tape, body_tape}
 use Rattle.c_tape.specs.Tape as tapes
 use Rattle.name_rules.specs.Faults.{Fault}
-use Rattle.type_rules.specs.Tokens as rule_tokens
 use Rattle.type_rules.specs.Judging.{words_faults, word_faults, params_faults}
 use Rattle.type_rules.specs.Judging as rules
 use Rattle.name_rules.specs.ShapeSteps.State.{State}
@@ -122,49 +120,11 @@ module _ (k : Over) where
 
 -- tokens and counts
 
--- the token of a qualifier on a tape is its token by the rules of types
-same_qual : (q : Qual) → tape_tokens.qual_token q ≡ rule_tokens.qual_token q
-same_qual (quals.Word word) = refl
-same_qual (quals.Element token) = refl
-same_qual (quals.Index token) = refl
-
-same_enum : (e : EnumType) → tape_tokens.enum_token e ≡ rule_tokens.enum_token e
-same_enum (enum_of keyword attrs tag body) = refl
-
--- the first token of a specifier on a tape is its token by the rules of types
-same_word : (word : SpecWord) → tape_tokens.word_token word ≡ rule_tokens.word_token word
-same_word (storage word) = refl
-same_word (thread token) = refl
-same_word (inline_word token) = refl
-same_word (noreturn token) = refl
-same_word (qualifier q) = same_qual q
-same_word (basic word) = refl
-same_word (struct_type word attrs tag body) = refl
-same_word (enum_type e) = same_enum e
-same_word (typedef_name name) = refl
-same_word (attribute attr) = refl
-same_word (typeof_value keyword opening e closing) = refl
-same_word (typeof_type word opening ws d closing) = refl
-same_word (align attr) = refl
-same_word (auto_word token) = refl
-
-pub same_first : (ws : SpecWords) → tape_tokens.first_word ws ≡ rule_tokens.first_word ws
-same_first no_words = refl
-same_first (more_words word ws) = same_word word
-
 pub same_count : (es : Exprs) → tapes.count es ≡ rules.count es
 same_count no_exprs = refl
 same_count (more_exprs e es) = ap suc (same_count es)
 
 -- a list of parameters that says that there are none has no fault
-
-pub left : (a b : Bool) → (a && b) ≡ true → a ≡ true
-left true b e = refl
-left false b e = e
-
-pub right : (a b : Bool) → (a && b) ≡ true → b ≡ true
-right true b e = e
-right false b e = absurd cc
 
 module _ (k : Over) where
   bare_word : (word : SpecWord) → is_bare_word word ≡ true → total k.weight (word_faults k.spelling k.names word) ≡ 0
@@ -186,8 +146,8 @@ module _ (k : Over) where
   bare_words : (ws : SpecWords) → is_bare ws ≡ true → total k.weight (words_faults k.spelling k.names ws) ≡ 0
   bare_words no_words e = refl
   bare_words (more_words word ws) e =
-      let first = bare_word word (left (is_bare_word word) (is_bare ws) e) in let others =
-      bare_words ws (right (is_bare_word word) (is_bare ws) e) in
+      let first = bare_word word (and_first (is_bare_word word) (is_bare ws) e) in let others =
+      bare_words ws (and_second (is_bare_word word) (is_bare ws) e) in
       omega (arith, total_append k.weight)
 
   pub none_said : (ps : Params) → says_none ps ≡ true → total k.weight (params_faults k.spelling k.names ps) ≡ 0

@@ -25,9 +25,11 @@ use Rattle.type_rules.specs.Judging as rules
 use Rattle.name_rules.specs.ShapeSteps.State.{Operand, expression, shape_of_operand, type_of_operand, whole, State, put, first_operand}
 use Rattle.name_rules.specs.ShapeSteps.Steps.{within, type_of_name, literal_put, twice, associations}
 use Rattle.resolve_laws.proofs.ShapeLaws.Goes.{Over, total_append, Goes, as_is, nowhere, one, join, from, next, same, reaching, swapped}
-use Rattle.resolve_laws.proofs.ShapeLaws.Stacks.{drop_above, drop_one_more, operand_of, with_expr, with_middle, arguments_on, with_arguments, under_arguments, assocs_on, with_assocs, under_assocs, assocs_kept, with_value, type_at_words, leaves_in, with_leaves, declaring}
-use Rattle.resolve_laws.proofs.ShapeLaws.Idle.{either, same_first, same_count, none_said}
+use Rattle.resolve_laws.proofs.ShapeLaws.Lists.{drop_above, drop_one_more}
+use Rattle.resolve_laws.proofs.ShapeLaws.Stacks.{operand_of, with_expr, with_middle, arguments_on, with_arguments, under_arguments, assocs_on, with_assocs, under_assocs, assocs_kept, with_value, type_at_words, leaves_in, with_leaves, declaring}
+use Rattle.resolve_laws.proofs.ShapeLaws.Idle.{either, same_count, none_said}
 use Rattle.resolve_laws.proofs.ShapeLaws.Rules.{list_rule_goes, list_split}
+use Rattle.resolve_laws.proofs.NameLaws.Agreeing.{same_first}
 
 -- what is read from a place of a struct is of the struct's type
 
@@ -70,7 +72,8 @@ module _ (k : Over) where
       Goes k (prefix_tape token p e aims addressed taken) as_is (with_expr k (prefix token p e))
       (prefix_faults (place k.spelling token) p (shape_of k.spelling k.names e) ++ fs)
   prefix_goes token signs.Ampersand e aims a b =
-      swapped a (one (prefix_faults (place k.spelling token) signs.Ampersand (shape_of k.spelling k.names e)) (λ st. refl))
+      swapped a
+      (one (prefix_faults (place k.spelling token) signs.Ampersand (shape_of k.spelling k.names e)) (λ st. refl))
   prefix_goes token p e aims a b =
       swapped b (one (prefix_faults (place k.spelling token) p (shape_of k.spelling k.names e)) (λ st. refl))
 
@@ -103,7 +106,8 @@ module _ (k : Over) where
             operands = expression (selected_shape (value (shape_of k.spelling k.names e))
                 (associations_of k.spelling k.names xs)) false ∷ operands;
           })
-          (drop_one_more (twice (assoc_count xs)) (assocs_on k xs (operand_of k e ∷ st.operands)) (operand_of k e) st.operands
+          (drop_one_more (twice (assoc_count xs)) (assocs_on k xs (operand_of k e ∷ st.operands))
+          (operand_of k e) st.operands
           (below st)))
 
   -- calls

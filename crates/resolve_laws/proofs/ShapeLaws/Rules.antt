@@ -19,7 +19,8 @@ module _ (k : Over) where
   abbrev pub own_faults : Option CType → Desig → List Fault
   own_faults t (member_desig before name) = member_faults k.spelling k.names t name.token name.name
   own_faults t (index_desig opening e closing) = fault_where (is_no_pointer t) (place k.spelling opening) not_pointer
-  own_faults t (range_desig opening e dots e2 closing) = fault_where (is_no_pointer t) (place k.spelling opening) not_pointer
+  own_faults t (range_desig opening e dots e2 closing) =
+      fault_where (is_no_pointer t) (place k.spelling opening) not_pointer
   own_faults t (old_desig name colon) = member_faults k.spelling k.names t name.token name.name
 
   abbrev pub designator_faults : Option CType → Desigs → List Fault

@@ -1,6 +1,7 @@
 -- What the tape of each part of a tree does: by cases on the tree.
 use Rattle.std.proofs.Common.{◌≡◌, ℕ, Bool, true, false, List, [], ◌∷◌, ◌++◌, Option, None, refl, sym, ap, append_assoc}
 use Rattle.std.specs.Prelude.{◌&&◌, not}
+use Rattle.qual_base.proofs.Tests.{and_second, and_first}
 use Rattle.c_syntax.specs.declared.parts.Identifier.{Identifier}
 use Rattle.tape_ops.specs.declared.op.Op.{Op}
 use Rattle.tape_ops.specs.declared.specifier.TagKind.{TagKind}
@@ -22,7 +23,7 @@ use Rattle.name_rules.specs.ShapeSteps.State.{Operand}
 use Rattle.name_rules.specs.ShapeSteps.Steps.{type_of_name}
 use Rattle.resolve_laws.proofs.ShapeLaws.Goes.{Over, total, total_group, total_last_first, total_group_three, total_operation, Goes, as_is, nowhere, one, join, from, next, same, reaching, without, swapped}
 use Rattle.resolve_laws.proofs.ShapeLaws.Stacks.{with_expr, with_some_expr, with_middle, with_arguments, with_assoc, with_assocs, with_value, type_at_words, leaves, leaves_in, leaves_of, with_leaves, with_stmt, with_block_item, with_items, no_stmt_kept, none_kept, value_kept, declaring, token_in, token_in_some, declared_in, target_named}
-use Rattle.resolve_laws.proofs.ShapeLaws.Idle.{left, right, identifiers_idle, either, pieces_idle, unnamed_idle, tag_idle, body_idle, arguments_idle}
+use Rattle.resolve_laws.proofs.ShapeLaws.Idle.{identifiers_idle, either, pieces_idle, unnamed_idle, tag_idle, body_idle, arguments_idle}
 use Rattle.resolve_laws.proofs.ShapeLaws.Parts.{prefix_goes, generic_goes, operator_goes, call_goes, arrow_goes, arrow_member_goes, offset_goes, type_name_goes, literal_goes, braced_goes, params_with_go, quietly_goes}
 
 module _ (k : Over) where
@@ -73,7 +74,8 @@ module _ (k : Over) where
         (one (member_faults k.spelling k.names (value (shape_of k.spelling k.names e)) name.token name.name)
         (λ st. refl))
     expr_goes (arrow e token name) called aims =
-        same (join (join (expr_goes e false false) (arrow_goes k e token _ _ aims name)) (arrow_member_goes k e token name))
+        same
+        (join (join (expr_goes e false false) (arrow_goes k e token _ _ aims name)) (arrow_member_goes k e token name))
         (total_last_first k.weight (expr_faults k.spelling k.names e)
         (fault_where (is_no_pointer (value (shape_of k.spelling k.names e))) (place k.spelling token) not_pointer)
         (member_faults k.spelling k.names (some_target (value (shape_of k.spelling k.names e))) name.token name.name))
@@ -123,7 +125,8 @@ module _ (k : Over) where
         (total_group k.weight (expr_faults k.spelling k.names e) (expr_faults k.spelling k.names e2)
         (expr_faults k.spelling k.names e3))
     expr_goes (generic keyword opening e xs closing) called aims =
-        without (next (without (join (one [] (λ st. refl)) (expr_goes e false false)) (one [] (λ st. refl))) (assocs_go xs))
+        without
+        (next (without (join (one [] (λ st. refl)) (expr_goes e false false)) (one [] (λ st. refl))) (assocs_go xs))
         (generic_goes k keyword opening e xs closing)
 
     assocs_go : (xs : Assocs) → Goes k (assocs_tape xs) as_is (with_assocs k xs) (assocs_faults k.spelling k.names xs)
@@ -369,7 +372,7 @@ module _ (k : Over) where
         Goes k (declaration_tape d) as_is as_is (declaration_faults k.spelling k.names d)
     declaration_goes (declaration exts ws ds semi) =
         without (join (without (words_go ws (declares_tag ws ds)) (one [] (λ st. refl)))
-        (either k (are_auto ws ds) (λ e. auto_declrs_go ds None semi (right (has_auto ws) (have_values ds) e))
+        (either k (are_auto ws ds) (λ e. auto_declrs_go ds None semi (and_second (has_auto ws) (have_values ds) e))
         (λ e. init_declrs_go ds None))) (one [] (λ st. refl))
 
     -- declarators of names that have the types of their initialisers
@@ -380,8 +383,8 @@ module _ (k : Over) where
     auto_declrs_go (more_init_declrs attrs d asm_label attrs2 i ds) declared semi h =
         same (join (join (contents_go d false declared)
         (auto_init_goes i (token_in d) declared semi (declared_type k.spelling k.names (declared_name d))
-        (left (has_value i) (have_values ds) h)))
-        (auto_declrs_go ds (token_in d) semi (right (has_value i) (have_values ds) h)))
+        (and_first (has_value i) (have_values ds) h)))
+        (auto_declrs_go ds (token_in d) semi (and_second (has_value i) (have_values ds) h)))
         (total_group k.weight (declr_faults k.spelling k.names d)
         (some_init_faults k.spelling k.names (declared_type k.spelling k.names (declared_name d)) i)
         (init_declrs_faults k.spelling k.names ds))
@@ -485,7 +488,7 @@ module _ (k : Over) where
       Goes k (old_declaration_tape d) as_is as_is (declaration_faults k.spelling k.names d)
   old_declaration_goes (declaration exts ws ds semi) =
       without (join (without (words_go ws (declares_tag ws ds)) (one [] (λ st. refl)))
-      (either k (are_auto ws ds) (λ e. auto_declrs_go ds None semi (right (has_auto ws) (have_values ds) e))
+      (either k (are_auto ws ds) (λ e. auto_declrs_go ds None semi (and_second (has_auto ws) (have_values ds) e))
       (λ e. old_declrs_go ds None))) (one [] (λ st. refl))
 
   old_declarations_go : (ds : List Declaration) →
@@ -497,7 +500,8 @@ module _ (k : Over) where
       Goes k (old_contents ds d) (declaring None declared) (declaring (token_in d) declared)
       (old_declr_faults k.spelling k.names ds d)
   old_contents_go ds (identifiers d opening names closing) declared =
-      without (next (without (without (contents_go d false declared) (one [] (λ st. refl))) (from _ (identifiers_idle k names)))
+      without (next
+      (without (without (contents_go d false declared) (one [] (λ st. refl))) (from _ (identifiers_idle k names)))
       (old_declarations_go ds)) (one [] (λ st. refl))
   old_contents_go ds (pointer star words d) declared = old_contents_go ds d declared
   old_contents_go ds (declr_paren opening attrs d closing) declared = old_contents_go ds d declared
@@ -508,7 +512,8 @@ module _ (k : Over) where
   old_contents_go ds (declr_name token name) declared = contents_go (declr_name token name) false declared
   old_contents_go ds (base_name token) declared = contents_go (base_name token) false declared
   old_contents_go ds (abs_pointer star words d) declared = contents_go (abs_pointer star words d) false declared
-  old_contents_go ds (abs_paren opening attrs d closing) declared = contents_go (abs_paren opening attrs d closing) false declared
+  old_contents_go ds (abs_paren opening attrs d closing) declared =
+      contents_go (abs_paren opening attrs d closing) false declared
   old_contents_go ds (abs_array d opening words size closing) declared =
       contents_go (abs_array d opening words size closing) false declared
   old_contents_go ds (abs_params d opening ps dots closing) declared =

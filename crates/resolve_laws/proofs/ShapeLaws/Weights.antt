@@ -2,6 +2,7 @@
 use Rattle.std.proofs.Common.{◌≡◌, ◌↔◌, ℕ, zero, suc, ◌+◌, ◌<◌, ◌≤◌, Bool, true, false, Contains, List, [], ◌∷◌, nat_eq, refl, sym, ◌∙◌, ap, arith}
 use Rattle.std.proofs.lemmas.Bool.{eq-eqb, eqb-true}
 use Rattle.std.specs.Prelude.{◌&&◌, if◌then◌else◌, length}
+use Rattle.qual_base.proofs.Tests.{and_second, and_first}
 use Rattle.name_rules.specs.Faults.{Rule, undeclared, not_pointer, not_function, no_member, argument_count, not_place, defined_twice, type_too_large, no_type, number, Fault}
 use Rattle.resolve_laws.proofs.ShapeLaws.Goes.{total}
 
@@ -33,14 +34,6 @@ rule_numbered no_type = refl
 abbrev is_same : Fault → Fault → Bool
 is_same f g = nat_eq f.at.0 g.at.0 && (nat_eq f.at.1 g.at.1 && nat_eq (number f.rule) (number g.rule))
 
-left : (a b : Bool) → (a && b) ≡ true → a ≡ true
-left true b e = refl
-left false b e = e
-
-right : (a b : Bool) → (a && b) ≡ true → b ≡ true
-right true b e = e
-right false b e = absurd cc
-
 same_itself : (f : Fault) → is_same f f ≡ true
 same_itself f = rw (eq-eqb f.at.0 f.at.0 refl, eq-eqb f.at.1 f.at.1 refl, eq-eqb (number f.rule) (number f.rule) refl)
     refl
@@ -51,13 +44,13 @@ fault unit token r = record { at = (unit, token); rule = r }
 -- faults that pass the test for being the same are equal
 same_is : (f g : Fault) → is_same f g ≡ true → f ≡ g
 same_is f g e =
-    let first : nat_eq f.at.0 g.at.0 ≡ true = left (nat_eq f.at.0 g.at.0) _ e in
+    let first : nat_eq f.at.0 g.at.0 ≡ true = and_first (nat_eq f.at.0 g.at.0) _ e in
     let others : (nat_eq f.at.1 g.at.1 && nat_eq (number f.rule) (number g.rule)) ≡ true =
-    right (nat_eq f.at.0 g.at.0) _ e in
+    and_second (nat_eq f.at.0 g.at.0) _ e in
     let unit : f.at.0 ≡ g.at.0 = eqb-true f.at.0 g.at.0 first in
-    let token : f.at.1 ≡ g.at.1 = eqb-true f.at.1 g.at.1 (left (nat_eq f.at.1 g.at.1) _ others) in
+    let token : f.at.1 ≡ g.at.1 = eqb-true f.at.1 g.at.1 (and_first (nat_eq f.at.1 g.at.1) _ others) in
     let numbers : number f.rule ≡ number g.rule =
-    eqb-true (number f.rule) (number g.rule) (right (nat_eq f.at.1 g.at.1) _ others) in
+    eqb-true (number f.rule) (number g.rule) (and_second (nat_eq f.at.1 g.at.1) _ others) in
     let rule : f.rule ≡ g.rule = sym (rule_numbered f.rule) ∙ (ap rule_of numbers ∙ rule_numbered g.rule) in
     ap (λ (n : ℕ). fault n f.at.1 f.rule) unit ∙
     (ap (λ (n : ℕ). fault g.at.0 n f.rule) token ∙ ap (λ (r : Rule). fault g.at.0 g.at.1 r) rule)

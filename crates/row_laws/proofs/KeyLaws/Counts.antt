@@ -96,14 +96,16 @@ module _ {n : ℕ} where
   pub behind : {it : Lexeme} {xs ws : List Op} {t l k : List Lexeme} → Covers n xs t (it ∷ l) → Covers n [] l k →
       StandsAt n ws it.at → Covers n (xs ++ ws) t k
   behind {xs = xs} {ws = ws} p q r = record {
-    most = (let u = counted_append n xs ws in let a = p.most in let b = q.most in let c = r.one in omega (arith, u, a, b, c));
+    most = (let u = counted_append n xs ws in let a = p.most in let b = q.most in let c = r.one in
+        omega (arith, u, a, b, c));
   }
 
   -- an op at the token between its operands
   pub amid : {it : Lexeme} {xs ys ws : List Op} {t l k : List Lexeme} → Covers n xs t (it ∷ l) → Covers n ys l k →
       StandsAt n ws it.at → Covers n (xs ++ ys ++ ws) t k
   amid {xs = xs} {ys = ys} {ws = ws} p q r = record {
-    most = (let u = counted_append n (xs ++ ys) ws in let v = counted_append n xs ys in let a = p.most in let b = q.most in
+    most = (let u = counted_append n (xs ++ ys) ws in let v = counted_append n xs ys in let a = p.most in
+        let b = q.most in
         let c = r.one in omega (arith, u, v, a, b, c));
   }
 

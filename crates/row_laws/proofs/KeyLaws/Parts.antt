@@ -56,11 +56,13 @@ module _ {n : ℕ} where
     pieces_mute (pointer star words d) = mutes (mutes (pointer_words_mute words) (mute refl)) (pieces_mute d)
     pieces_mute (declr_name token name) = empty
     pieces_mute (declr_paren opening attrs d closing) = pieces_mute d
-    pieces_mute (array d opening words size closing) = mutes (mutes (array_words_mute words) (mute refl)) (pieces_mute d)
+    pieces_mute (array d opening words size closing) =
+        mutes (mutes (array_words_mute words) (mute refl)) (pieces_mute d)
     pieces_mute (params d opening ps dots closing) = mutes (mutes (dots_mute dots) (mute refl)) (pieces_mute d)
     pieces_mute (abs_pointer star words d) = mutes (mutes (pointer_words_mute words) (mute refl)) (some_pieces_mute d)
     pieces_mute (abs_paren opening attrs d closing) = pieces_mute d
-    pieces_mute (abs_array d opening words size closing) = mutes (mutes (array_words_mute words) (mute refl)) (some_pieces_mute d)
+    pieces_mute (abs_array d opening words size closing) =
+        mutes (mutes (array_words_mute words) (mute refl)) (some_pieces_mute d)
     pieces_mute (abs_params d opening ps dots closing) = mutes (mutes (dots_mute dots) (mute refl)) (some_pieces_mute d)
     pieces_mute (identifiers d opening names closing) = mutes (mute refl) (pieces_mute d)
     pieces_mute (base_name token) = empty
@@ -85,11 +87,13 @@ module _ {n : ℕ} where
     rule_mute (init_braced list) = rule_list_mute list
 
     pub rule_list_mute : (list : InitList) → IsMute n (rule_of_list list)
-    rule_list_mute (init_list opening items last closing) = mutes (mutes (mute refl) (rule_items_mute items)) (mute refl)
+    rule_list_mute (init_list opening items last closing) =
+        mutes (mutes (mute refl) (rule_items_mute items)) (mute refl)
 
     rule_items_mute : (items : InitItems) → IsMute n (rule_of_items items)
     rule_items_mute no_init_items = empty
-    rule_items_mute (more_init_items ds equal i items) = mutes (mutes (desigs_mute ds) (rule_mute i)) (rule_items_mute items)
+    rule_items_mute (more_init_items ds equal i items) =
+        mutes (mutes (desigs_mute ds) (rule_mute i)) (rule_items_mute items)
 
   pub arguments_mute : (es : Exprs) → IsMute n (arguments es)
   arguments_mute no_exprs = empty
@@ -115,7 +119,8 @@ module _ {n : ℕ} where
   -- what stands round other nodes
 
   -- an operator before its operand, from what covers the tape of the operand only addressed and that of it taken
-  pub prefix_covers : (p : Punct) (e : Expr) (aims : Bool) {it : Lexeme} {addressed taken : List Op} {t k : List Lexeme} →
+  pub prefix_covers : (p : Punct) (e : Expr) (aims : Bool) {it : Lexeme} {addressed taken : List Op}
+      {t k : List Lexeme} →
       Covers n addressed t k → Covers n taken t k → Covers n (prefix_tape it.at p e aims addressed taken) (it ∷ t) k
   prefix_covers signs.Ampersand e aims p q = keyed p (own refl)
   prefix_covers sign e aims p q = keyed q (own refl)

@@ -12,26 +12,15 @@ use Rattle.tape_ops.specs.declared.specifier.TagKind.TheVariants as tags
 use Rattle.c_tree.specs.declared.lexeme.Lexeme.{Lexeme}
 use Rattle.c_tree.specs.Tree.{Expr, operation, cast, prefix, sizeof_value, sizeof_type, extension, index, call, dot, arrow, post, compound, name_use, number_use, char_use, text_use, paren, statement_expr, va_arg, va_start, va_copy, offset, Operator, comma, assign, cond, binary, SomeExpr, no_expr, some_expr, Exprs, no_exprs, more_exprs, SpecWords, no_words, more_words, SpecWord, storage, thread, inline_word, noreturn, qualifier, basic, struct_type, enum_type, typedef_name, attribute, SomeBody, no_body, some_body, StructItems, no_struct_items, more_struct_items, StructItem, member, member_semi, member_assert, MemDeclrs, no_mem_declrs, more_mem_declrs, MemDeclr, named, unnamed, SomeValue, no_value, some_value, EnumType, enum_of, SomeEnumBody, no_enum_body, some_enum_body, Enumerators, no_enumerators, more_enumerators, Declr, pointer, declr_name, declr_paren, array, params, abs_pointer, abs_paren, abs_array, abs_params, SomeDeclr, no_declr, some_declr, SomeSize, no_size, some_size, ArraySize, size_value, size_star, Params, no_params, more_params, Init, init_value, init_braced, InitList, init_list, InitItems, no_init_items, more_init_items, Desigs, no_desigs, more_desigs, Desig, member_desig, index_desig, SomeInit, no_init, some_init, InitDeclrs, no_init_declrs, more_init_declrs, Declaration, declaration, Decl, decl_declaration, decl_assert, BlockItems, no_block_items, more_block_items, BlockItem, block_decl, block_stmt, Stmt, block, expr_stmt, attr_stmt, label, case_stmt, default_stmt, if_stmt, switch_stmt, while_stmt, do_stmt, for_stmt, goto_stmt, continue_stmt, break_stmt, return_stmt, asm_stmt, SomeElse, no_else, some_else, ForStart, start_declaration, start_value, complex_part, label_use, compat, choose, generic, Assocs, no_assocs, more_assocs, Assoc, typed_assoc, default_assoc, typeof_value, typeof_type, align, auto_word, identifiers, base_name, range_desig, old_desig, block_labels, case_range, goto_value}
 use Rattle.c_tree.specs.Text.{assocs_text, assoc_text, texts_text, expr_text, operator_text, some_expr_text, exprs_text, other_exprs_text, spec_words_text, spec_word_text, some_body_text, struct_items_text, struct_item_text, mem_declrs_text, other_mem_declrs_text, mem_declr_text, some_value_text, enum_type_text, some_enum_body_text, enumerators_text, other_enumerators_text, declr_text, some_declr_text, some_size_text, array_size_text, params_text, other_params_text, init_text, init_list_text, init_items_text, other_init_items_text, desigs_text, desig_text, some_init_text, init_declrs_text, other_init_declrs_text, declaration_text, decl_text, block_items_text, block_item_text, stmt_text, some_else_text, for_start_text}
-use Rattle.c_tree.specs.WellFormed.{AreAssocs, IsAssoc, IsExpr, IsMiddle, IsSomeExpr, AreArguments, AreSteps, IsStep, AreDesigs, IsDesig, AreTypeWords, AreSpecWords, IsSpecWord, IsBody, AreStructItems, IsStructItem, AreMemDeclrs, IsMemDeclr, IsSomeValue, IsEnum, IsEnumBody, AreEnumerators, IsDeclr, IsSomeAbstract, IsSomeDirect, IsSize, IsArraySize, AreParams, IsSomeDeclr, IsInit, IsInitList, AreInitItems, IsSomeInit, AreInitDeclrs, IsDeclaration, IsDecl, AreBlockItems, IsBlockItem, IsStmt, IsOther, IsStart}
+use Rattle.c_tree.specs.WellFormed.{AreAssocs, IsAssoc, IsExpr, IsMiddle, IsSomeExpr, AreArguments, AreSteps, IsStep, AreDesigs, IsDesig, AreSpecWords, IsSpecWord, IsBody, AreStructItems, IsStructItem, AreMemDeclrs, IsMemDeclr, IsSomeValue, IsEnum, IsEnumBody, AreEnumerators, IsDeclr, IsSize, IsArraySize, AreParams, IsSomeDeclr, IsInit, IsInitList, AreInitItems, IsSomeInit, AreInitDeclrs, IsDeclaration, IsDecl, AreBlockItems, IsBlockItem, IsStmt, IsOther, IsStart}
 use Rattle.c_tree.specs.Unit.{Item, function_item, old_function_item, decl_item, asm_item, semi_item, IsItem, declarations_text, item_text, items_text}
 use Rattle.c_tree.specs.Ends.{first_token, last_token, first_text}
 use Rattle.c_tree.specs.Firsts.{first_word}
+use Rattle.c_tree.proofs.Weaker.{type_words_are, abstract_is, direct_is}
 use Rattle.c_tape.specs.Tests.{are_auto, is_void, tag_kind, says_none}
 use Rattle.c_tape.specs.Tape.{expr, tape_in, assocs_tape, assoc_tape, auto_declrs_tape, auto_init_tape, old_contents, old_declrs_tape, old_declaration_tape, old_declarations_tape, operator_tape, middle_tape, some_expr_tape, exprs_tape, dropped_tape, steps_tape, step_tape, words_tape, word_tape, unnamed_tape, unnamed_word_tape, specs_with, struct_tape, struct_items_tape, struct_item_tape, members_tape, mem_declrs_tape, mem_declr_tape, some_value_tape, enum_tape, enum_body_tape, enumerators_tape, some_declr_tape, contents, some_contents, some_size_tape, size_tape, params_tape, init_tape, list_tape, init_items_tape, indices_tape, index_tape, some_init_tape, declared_init_tape, init_declrs_tape, declaration_tape, decl_tape, block_items_tape, block_item_tape, stmt_tape, some_else_tape, for_start_tape, return_tape, item_tape, tape_of}
 use Rattle.row_laws.proofs.KeyLaws.Counts.{mutes, Covers, CoversBoth, CoversBut, reached, unreached, but_mute, but_then, then_but, but_past, but_before, paid, text_only, nothing, join, skip, mute, own, then_mute, mute_then, keyed, between, behind, amid, mute_only, past, ends, alone, side_by_side, keyed_beside, one_by_one}
 use Rattle.row_laws.proofs.KeyLaws.Parts.{identifiers_mute, prefix_covers, names_skip, pieces_mute, rule_list_mute, arguments_mute, tag_mute, body_mute, void_mute, quiet_covers, scope_covers, specs_cover, type_name_covers, params_cover, some_sign_skip, tag_skip, words_skip, extensions_skip, texts_skip, group_skip, attr_skip, attrs_skip, label_skip, assert_skip, qual_skip, pointer_words_skip, array_words_skip, dots_skip}
-
-type_words : (all : List Lexeme) (ws : SpecWords) → AreTypeWords all ws → AreSpecWords all ws
-type_words all no_words h = tt
-type_words all (more_words word ws) h = (h.0, type_words all ws h.2)
-
-abstract_is : (all : List Lexeme) (d : SomeDeclr) → IsSomeAbstract all d → IsSomeDeclr all d
-abstract_is all no_declr h = tt
-abstract_is all (some_declr d) h = h.0
-
-direct_is : (all : List Lexeme) (d : SomeDeclr) → IsSomeDirect all d → IsSomeDeclr all d
-direct_is all no_declr h = tt
-direct_is all (some_declr d) h = h.0
 
 module _ {n : ℕ} (all : List Lexeme) where
   texts_cover : (texts : List ℕ) → texts ≢ [] → {k : List Lexeme} →
@@ -48,16 +37,20 @@ module _ {n : ℕ} (all : List Lexeme) where
     expr_covers : (e : Expr) → IsExpr all e → (called aims : Bool) → {k : List Lexeme} →
         Covers n (tape_in called aims e) (expr_text all e k) k
     expr_covers (operation e op token e2) h called aims =
-        operator_covers op h.3 token (first_token e) (last_token e2) (expr_covers e h.0 false false) (expr_covers e2 h.1 false false)
+        operator_covers op h.3 token (first_token e) (last_token e2) (expr_covers e h.0 false false)
+        (expr_covers e2 h.1 false false)
     expr_covers (cast opening ws d closing e) h called aims =
-        keyed (join (type_name_covers (first_word ws) (words_cover ws (type_words all ws h.1) false) (some_declr_covers d
+        keyed (join
+        (type_name_covers (first_word ws) (words_cover ws (type_words_are all ws h.1) false) (some_declr_covers d
         (abstract_is all d h.2)))
         (skip (expr_covers e h.3 false false))) (own refl)
     expr_covers (prefix token p e) h called aims =
         prefix_covers p e aims (expr_covers e h.0 false true) (expr_covers e h.0 false false)
-    expr_covers (sizeof_value word e) h called aims = keyed (mute_then (mute refl) (expr_covers e h.0 false false)) (own refl)
+    expr_covers (sizeof_value word e) h called aims =
+        keyed (mute_then (mute refl) (expr_covers e h.0 false false)) (own refl)
     expr_covers (sizeof_type word opening ws d closing) h called aims =
-        keyed (mute_then (mute refl) (skip (ends (type_name_covers (first_word ws) (words_cover ws (type_words all ws h.1) false)
+        keyed (mute_then (mute refl)
+        (skip (ends (type_name_covers (first_word ws) (words_cover ws (type_words_are all ws h.1) false)
         (some_declr_covers d (abstract_is all d h.2)))))) (own refl)
     expr_covers (extension keyword e) h called aims = keyed (expr_covers e h.0 false aims) (own refl)
     expr_covers (index e opening e2 closing) h called aims =
@@ -70,7 +63,7 @@ module _ {n : ℕ} (all : List Lexeme) where
     expr_covers (post e token p) h called aims = behind (expr_covers e h.0 false false) nothing (own refl)
     expr_covers (compound opening ws d closing list) h called aims =
         then_mute (then_mute (keyed (join (then_mute (type_name_covers (first_word ws) (words_cover ws
-        (type_words all ws h.1) false)
+        (type_words_are all ws h.1) false)
         (some_declr_covers d (abstract_is all d h.2))) (mute refl)) (skip (list_covers list h.3))) (own refl))
         (rule_list_mute list)) (mute refl)
     expr_covers (name_use token name) h called aims = keyed nothing (own refl)
@@ -82,24 +75,26 @@ module _ {n : ℕ} (all : List Lexeme) where
         keyed (scope_covers (skip (ends (ends (block_items_cover items h.0 true))))) (own refl)
     expr_covers (va_arg keyword opening e separator ws d closing) h called aims =
         keyed (skip (join (expr_covers e h.0 false false) (skip (ends (type_name_covers (first_word ws)
-        (words_cover ws (type_words all ws h.2) false) (some_declr_covers d (abstract_is all d h.3))))))) (own refl)
+        (words_cover ws (type_words_are all ws h.2) false) (some_declr_covers d (abstract_is all d h.3))))))) (own refl)
     expr_covers (va_start keyword opening e separator e2 closing) h called aims =
         keyed (skip (ends (join (expr_covers e h.0 false false) (skip (expr_covers e2 h.1 false false))))) (own refl)
     expr_covers (va_copy keyword opening e separator e2 closing) h called aims =
         keyed (skip (ends (join (expr_covers e h.0 false false) (skip (expr_covers e2 h.1 false false))))) (own refl)
     expr_covers (offset keyword opening ws d separator name steps closing) h called aims =
         keyed (skip (ends (join (then_mute (ends (ends (mute_then (mute refl) (type_name_covers (first_word ws)
-        (words_cover ws (type_words all ws h.1) false) (some_declr_covers d (abstract_is all d h.2)))))) (mute refl))
+        (words_cover ws (type_words_are all ws h.1) false) (some_declr_covers d (abstract_is all d h.2))))))
+        (mute refl))
         (steps_cover steps h.3)))) (own refl)
     expr_covers (complex_part keyword e) h called aims = keyed (expr_covers e h.0 false aims) (own refl)
     expr_covers (label_use token name) h called aims = keyed (skip nothing) (own refl)
     expr_covers (compat keyword opening ws d separator ws2 d2 closing) h called aims =
         keyed (skip (ends (join (mute_then (mute refl) (type_name_covers (first_word ws)
-        (words_cover ws (type_words all ws h.1) false) (some_declr_covers d (abstract_is all d h.2))))
-        (skip (type_name_covers (first_word ws2) (words_cover ws2 (type_words all ws2 h.4) false)
+        (words_cover ws (type_words_are all ws h.1) false) (some_declr_covers d (abstract_is all d h.2))))
+        (skip (type_name_covers (first_word ws2) (words_cover ws2 (type_words_are all ws2 h.4) false)
         (some_declr_covers d2 (abstract_is all d2 h.5))))))) (own refl)
     expr_covers (choose keyword opening e separator e2 separator2 e3 closing) h called aims =
-        keyed (skip (ends (join (join (quiet_covers (expr_covers e h.0 false false)) (skip (expr_covers e2 h.1 false false)))
+        keyed (skip
+        (ends (join (join (quiet_covers (expr_covers e h.0 false false)) (skip (expr_covers e2 h.1 false false)))
         (skip (expr_covers e3 h.2 false false))))) (own refl)
     expr_covers (generic keyword opening e xs closing) h called aims =
         keyed (skip (ends (join (then_mute (mute_then (mute refl) (expr_covers e h.0 false false)) (mute refl))
@@ -112,7 +107,7 @@ module _ {n : ℕ} (all : List Lexeme) where
 
     assoc_covers : (x : Assoc) → IsAssoc all x → {k : List Lexeme} → Covers n (assoc_tape x) (assoc_text all x k) k
     assoc_covers (typed_assoc ws d colon e) h =
-        join (type_name_covers (first_word ws) (words_cover ws (type_words all ws h.1) false)
+        join (type_name_covers (first_word ws) (words_cover ws (type_words_are all ws h.1) false)
         (some_declr_covers d (abstract_is all d h.2))) (skip (expr_covers e h.3 false false))
     assoc_covers (default_assoc keyword colon e) h = skip (skip (mute_then (mute refl) (expr_covers e h.0 false false)))
 
@@ -123,7 +118,8 @@ module _ {n : ℕ} (all : List Lexeme) where
         Covers n (xs ++ middle_tape op ++ ys ++ operator_tape op token first last) t k
     operator_covers comma h token first last p q = between p nothing q (own refl)
     operator_covers (assign sign) h token first last p q = between p nothing q (own refl)
-    operator_covers (cond middle colon) h token first last p q = between p (some_expr_covers middle h) (skip q) (own refl)
+    operator_covers (cond middle colon) h token first last p q =
+        between p (some_expr_covers middle h) (skip q) (own refl)
     operator_covers (binary sign) h token first last p q = between p nothing q (own refl)
 
     some_expr_covers : (e : SomeExpr) → IsSomeExpr all e → {k : List Lexeme} →
@@ -163,7 +159,8 @@ module _ {n : ℕ} (all : List Lexeme) where
     words_cover : (ws : SpecWords) → AreSpecWords all ws → (is_alone : Bool) → {k : List Lexeme} →
         CoversBoth n (words_tape is_alone ws) (unnamed_tape ws) (spec_words_text all ws k) k
     words_cover no_words h is_alone = alone nothing
-    words_cover (more_words word ws) h is_alone = side_by_side (word_covers word h.0 is_alone) (words_cover ws h.1 is_alone)
+    words_cover (more_words word ws) h is_alone =
+        side_by_side (word_covers word h.0 is_alone) (words_cover ws h.1 is_alone)
 
     word_covers : (word : SpecWord) → IsSpecWord all word → (is_alone : Bool) → {k : List Lexeme} →
         CoversBoth n (word_tape is_alone word) (unnamed_word_tape word) (spec_word_text all word k) k
@@ -174,18 +171,22 @@ module _ {n : ℕ} (all : List Lexeme) where
     word_covers (qualifier q) h is_alone = alone (then_mute (qual_skip all q nothing) (mute refl))
     word_covers (basic word) h is_alone = alone (then_mute (skip nothing) (void_mute (is_void word.keyword)))
     word_covers (struct_type word attrs None body) h is_alone =
-        keyed_beside (attrs_skip all attrs (struct_covers body h.3 is_alone (tag_kind word.keyword) word.token None)) (own refl)
+        keyed_beside
+        (attrs_skip all attrs (struct_covers body h.3 is_alone (tag_kind word.keyword) word.token None)) (own refl)
     word_covers (struct_type word attrs (Some tag) body) h is_alone =
-        alone (skip (attrs_skip all attrs (skip (struct_covers body h.3 is_alone (tag_kind word.keyword) word.token (Some tag)))))
+        alone (skip
+        (attrs_skip all attrs (skip (struct_covers body h.3 is_alone (tag_kind word.keyword) word.token (Some tag)))))
     word_covers (enum_type e) h is_alone = alone (enum_covers e h)
     word_covers (typedef_name name) h is_alone = alone (then_mute (skip nothing) (mute refl))
     word_covers (attribute attr) h is_alone = alone (attr_skip all attr nothing)
     word_covers (typeof_value keyword opening e closing) h is_alone =
-        alone (skip (skip (ends (then_mute (then_mute (mute_then (mutes (mute refl) (mute refl)) (expr_covers e h false false))
+        alone (skip
+        (skip (ends (then_mute (then_mute (mute_then (mutes (mute refl) (mute refl)) (expr_covers e h false false))
         (mute refl)) (mute refl)))))
     word_covers (typeof_type word opening ws d closing) h is_alone =
         alone (skip (skip (ends (then_mute (mute_then (mute refl) (type_name_covers (first_word ws)
-        (words_cover ws (type_words all ws h.2) false) (some_declr_covers d (abstract_is all d h.3)))) (mute refl)))))
+        (words_cover ws (type_words_are all ws h.2) false) (some_declr_covers d (abstract_is all d h.3))))
+        (mute refl)))))
     word_covers (align attr) h is_alone = alone (skip (group_skip all attr.group nothing))
     word_covers (auto_word token) h is_alone = alone (skip nothing)
 
@@ -199,7 +200,8 @@ module _ {n : ℕ} (all : List Lexeme) where
     struct_items_cover : (items : StructItems) → AreStructItems all items → {k : List Lexeme} →
         Covers n (struct_items_tape items) (struct_items_text all items k) k
     struct_items_cover no_struct_items h = nothing
-    struct_items_cover (more_struct_items item items) h = join (struct_item_covers item h.0) (struct_items_cover items h.1)
+    struct_items_cover (more_struct_items item items) h =
+        join (struct_item_covers item h.0) (struct_items_cover items h.1)
 
     struct_item_covers : (item : StructItem) → IsStructItem all item → {k : List Lexeme} →
         Covers n (struct_item_tape item) (struct_item_text all item k) k
@@ -252,13 +254,15 @@ module _ {n : ℕ} (all : List Lexeme) where
         Covers n (enumerators_tape es) (enumerators_text all es k) k
     enumerators_cover no_enumerators h = nothing
     enumerators_cover (more_enumerators name attrs value es) h =
-        join (keyed (attrs_skip all attrs (some_value_covers value h.1 Equal)) (own refl)) (other_enumerators_cover es h.2)
+        join (keyed (attrs_skip all attrs (some_value_covers value h.1 Equal)) (own refl))
+        (other_enumerators_cover es h.2)
 
     other_enumerators_cover : (es : Enumerators) → AreEnumerators all es → {k : List Lexeme} →
         Covers n (enumerators_tape es) (other_enumerators_text all es k) k
     other_enumerators_cover no_enumerators h = nothing
     other_enumerators_cover (more_enumerators name attrs value es) h =
-        skip (join (keyed (attrs_skip all attrs (some_value_covers value h.1 Equal)) (own refl)) (other_enumerators_cover es h.2))
+        skip (join (keyed (attrs_skip all attrs (some_value_covers value h.1 Equal)) (own refl))
+        (other_enumerators_cover es h.2))
 
     -- declarators
 
@@ -280,14 +284,18 @@ module _ {n : ℕ} (all : List Lexeme) where
         (dots_skip all dots (skip nothing))))
     contents_cover (abs_pointer star words d) h is_own =
         skip (pointer_words_skip all words (some_contents_cover d (abstract_is all d h.1)))
-    contents_cover (abs_paren opening attrs d closing) h is_own = skip (attrs_skip all attrs (ends (contents_cover d h.1 is_own)))
+    contents_cover (abs_paren opening attrs d closing) h is_own =
+        skip (attrs_skip all attrs (ends (contents_cover d h.1 is_own)))
     contents_cover (abs_array d opening words size closing) h is_own =
-        join (some_contents_cover d (direct_is all d h.0)) (skip (array_words_skip all words (ends (some_size_covers size h.2))))
+        join (some_contents_cover d (direct_is all d h.0))
+        (skip (array_words_skip all words (ends (some_size_covers size h.2))))
     contents_cover (abs_params d opening ps dots closing) h is_own =
-        join (some_contents_cover d (direct_is all d h.0)) (skip (past (params_cover false (says_none ps) (params_go ps h.1))
+        join (some_contents_cover d (direct_is all d h.0))
+        (skip (past (params_cover false (says_none ps) (params_go ps h.1))
         (dots_skip all dots (skip nothing))))
     contents_cover (identifiers d opening names closing) h is_own =
-        then_mute (then_mute (past (contents_cover d h.0 is_own) (skip (names_skip names (skip nothing)))) (mute refl)) (mute refl)
+        then_mute (then_mute (past (contents_cover d h.0 is_own) (skip (names_skip names (skip nothing))))
+        (mute refl)) (mute refl)
     contents_cover (base_name token) h is_own = skip nothing
 
     some_contents_cover : (d : SomeDeclr) → IsSomeDeclr all d → {k : List Lexeme} →
@@ -335,7 +343,8 @@ module _ {n : ℕ} (all : List Lexeme) where
         Covers n (init_items_tape items) (init_items_text all items k) k
     init_items_cover no_init_items h = nothing
     init_items_cover (more_init_items ds equal i items) h =
-        join (join (indices_cover ds h.0) (some_sign_skip Equal equal (init_covers i h.2))) (other_init_items_cover items h.3)
+        join (join (indices_cover ds h.0) (some_sign_skip Equal equal (init_covers i h.2)))
+        (other_init_items_cover items h.3)
 
     other_init_items_cover : (items : InitItems) → AreInitItems all items → {k : List Lexeme} →
         Covers n (init_items_tape items) (other_init_items_text all items k) k
@@ -353,7 +362,8 @@ module _ {n : ℕ} (all : List Lexeme) where
     index_covers (member_desig before name) h = skip (skip nothing)
     index_covers (index_desig opening e closing) h = quiet_covers (skip (ends (expr_covers e h.0 false false)))
     index_covers (range_desig opening e dots e2 closing) h =
-        join (quiet_covers (skip (expr_covers e h.0 false false))) (quiet_covers (skip (ends (expr_covers e2 h.2 false false))))
+        join (quiet_covers (skip (expr_covers e h.0 false false)))
+        (quiet_covers (skip (ends (expr_covers e2 h.2 false false))))
     index_covers (old_desig name colon) h = skip (skip nothing)
 
     some_init_covers : (i : SomeInit) → IsSomeInit all i → {k : List Lexeme} →
@@ -374,14 +384,16 @@ module _ {n : ℕ} (all : List Lexeme) where
         Covers n (init_declrs_tape ds) (init_declrs_text all ds k) k
     init_declrs_cover no_init_declrs h = nothing
     init_declrs_cover (more_init_declrs attrs d asm_label attrs2 i ds) h =
-        attrs_skip all attrs (join (join (then_mute (then_mute (contents_cover d h.1 false) (pieces_mute d)) (mute refl))
+        attrs_skip all attrs
+        (join (join (then_mute (then_mute (contents_cover d h.1 false) (pieces_mute d)) (mute refl))
         (label_skip all asm_label (attrs_skip all attrs2 (some_init_covers i h.5)))) (other_init_declrs_cover ds h.6))
 
     other_init_declrs_cover : (ds : InitDeclrs) → AreInitDeclrs all ds → {k : List Lexeme} →
         Covers n (init_declrs_tape ds) (other_init_declrs_text all ds k) k
     other_init_declrs_cover no_init_declrs h = nothing
     other_init_declrs_cover (more_init_declrs attrs d asm_label attrs2 i ds) h =
-        skip (attrs_skip all attrs (join (join (then_mute (then_mute (contents_cover d h.1 false) (pieces_mute d)) (mute refl))
+        skip (attrs_skip all attrs
+        (join (join (then_mute (then_mute (contents_cover d h.1 false) (pieces_mute d)) (mute refl))
         (label_skip all asm_label (attrs_skip all attrs2 (some_init_covers i h.5)))) (other_init_declrs_cover ds h.6)))
 
     declaration_covers : (d : Declaration) → IsDeclaration all d → {k : List Lexeme} →
@@ -396,7 +408,8 @@ module _ {n : ℕ} (all : List Lexeme) where
     auto_declrs_cover no_init_declrs h semi = nothing
     auto_declrs_cover (more_init_declrs attrs d asm_label attrs2 i ds) h semi =
         attrs_skip all attrs (join (join (contents_cover d h.1 false)
-        (label_skip all asm_label (attrs_skip all attrs2 (auto_init_covers i h.5 semi)))) (other_auto_declrs_cover ds h.6 semi))
+        (label_skip all asm_label (attrs_skip all attrs2 (auto_init_covers i h.5 semi))))
+        (other_auto_declrs_cover ds h.6 semi))
 
     other_auto_declrs_cover : (ds : InitDeclrs) → AreInitDeclrs all ds → (semi : ℕ) → {k : List Lexeme} →
         Covers n (auto_declrs_tape semi ds) (other_init_declrs_text all ds k) k
@@ -458,9 +471,11 @@ module _ {n : ℕ} (all : List Lexeme) where
     stmt_covers (continue_stmt keyword semi) h kept = skip (skip nothing)
     stmt_covers (break_stmt keyword semi) h kept = skip (skip nothing)
     stmt_covers (return_stmt keyword e semi) h kept = skip (return_covers e h keyword semi (skip nothing))
-    stmt_covers (asm_stmt keyword words group semi) h kept = skip (words_skip words (group_skip all group (skip nothing)))
+    stmt_covers (asm_stmt keyword words group semi) h kept =
+        skip (words_skip words (group_skip all group (skip nothing)))
     stmt_covers (case_range keyword e dots e2 colon s) h kept =
-        skip (join (join (quiet_covers (expr_covers e h.0 false false)) (skip (quiet_covers (expr_covers e2 h.2 false false))))
+        skip (join
+        (join (quiet_covers (expr_covers e h.0 false false)) (skip (quiet_covers (expr_covers e2 h.2 false false))))
         (skip (stmt_covers s h.4 false)))
     stmt_covers (goto_value keyword star e semi) h kept =
         skip (skip (ends (then_mute (expr_covers e h false false) (mute refl))))
@@ -486,7 +501,8 @@ module _ {n : ℕ} (all : List Lexeme) where
       Covers n (old_declrs_tape ds) (other_init_declrs_text all ds k) k
   other_old_declrs_cover no_init_declrs h = nothing
   other_old_declrs_cover (more_init_declrs attrs d asm_label attrs2 i ds) h =
-      skip (attrs_skip all attrs (join (join (then_mute (then_mute (contents_cover d h.1 false) (pieces_mute d)) (mute refl))
+      skip (attrs_skip all attrs
+      (join (join (then_mute (then_mute (contents_cover d h.1 false) (pieces_mute d)) (mute refl))
       (label_skip all asm_label (attrs_skip all attrs2 (some_init_covers i h.5)))) (other_old_declrs_cover ds h.6)))
 
   old_declrs_cover : (ds : InitDeclrs) → AreInitDeclrs all ds → {k : List Lexeme} →
@@ -513,7 +529,8 @@ module _ {n : ℕ} (all : List Lexeme) where
   old_contents_cover : (ds : List Declaration) (d : Declr) → IsDeclr all d → {k : List Lexeme} →
       CoversBut n (old_declarations_tape ds) (old_contents ds d) (declr_text all d k) k
   old_contents_cover ds (identifiers d opening names closing) h =
-      but_past (but_mute (reached (old_declarations_tape ds) (then_mute (then_mute (contents_cover d h.0 false) (mute refl))
+      but_past
+      (but_mute (reached (old_declarations_tape ds) (then_mute (then_mute (contents_cover d h.0 false) (mute refl))
       (identifiers_mute names))) (mute refl)) (skip (names_skip names (skip nothing)))
   old_contents_cover ds (pointer star words d) h =
       but_before (skip (pointer_words_skip all words nothing)) (old_contents_cover ds d h.1)
@@ -553,4 +570,5 @@ module _ {n : ℕ} (all : List Lexeme) where
       Covers n (tape_of items) (items_text all items k) k
   items_cover [] h k = nothing
   items_cover (item ∷ items) h k =
-      join (item_covers item (All-head (IsItem all) item items h)) (items_cover items (All-tail (IsItem all) item items h) k)
+      join (item_covers item (All-head (IsItem all) item items h))
+      (items_cover items (All-tail (IsItem all) item items h) k)

@@ -119,8 +119,11 @@ keys_of_one u (op ∷ tape) h = by_key (op_key op) h (keys_of_one u tape (λ n. 
     by_key : (key : Option ℕ) → ((n : ℕ) → added n key + counted_keys n tape ≤ 1) → AreDifferent (key_places u tape) →
         AreDifferent (key_place u key ++ key_places u tape)
     by_key None e rest = rest
-    by_key (Some token) e rest =
-        (no_place u token tape (no_more (nat_eq token token) (counted_keys token tape) (eq-eqb token token refl) (e token)), rest)
+    by_key (Some token) e rest = (
+      no_place u token tape
+          (no_more (nat_eq token token) (counted_keys token tape) (eq-eqb token token refl) (e token)),
+      rest,
+    )
 
 -- keys of units
 
@@ -188,4 +191,5 @@ keys_differ (it ∷ sources) reads units =
     differ (key_places it.spelling (tape_of it.items)) (keys_among sources)
     (keys_of_one it.spelling (tape_of it.items) (keys_once it (All-head IsRead it sources reads)))
     (keys_differ sources (All-tail IsRead it sources reads) units.1)
-    (apart_from it.spelling (tape_of it.items) (keys_among sources) (λ token. no_unit sources (place it.spelling token) units.0))
+    (apart_from it.spelling (tape_of it.items) (keys_among sources)
+    (λ token. no_unit sources (place it.spelling token) units.0))

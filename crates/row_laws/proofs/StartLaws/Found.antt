@@ -66,8 +66,7 @@ abbrev pub has_at : Over → Rounds → Having
 has_at k r = naming_has k.spelling k.names (naming r)
 
 -- From any state, where names of declarators have skeletons or none, these skeletons begin along a tape, by what is
--- around
--- it; behind it the same is around.
+-- around it; behind it the same is around.
 pub record Finds (k : Over) (h : Having) (tape : List Op) (f : Around → List Start) : Type 0 where
   pub finds : (st : State) (r : Rounds) → has_at k r ≡ h → found k st r tape ≡ f (at k r)
   pub stays : (st : State) (r : Rounds) → rounds_behind k st r tape ≡ r
@@ -131,8 +130,7 @@ pub idle : {k : Over} {h : Having} (op : Op) → ((st : State) (r : Rounds) → 
 idle op none stay = one op (λ a. []) (λ st r e. none st r) stay
 
 -- Between two ops, where something else is around: from what is around to what is around a tape within by `into`, of
--- which
--- the skeletons know by `inside`.
+-- which the skeletons know by `inside`.
 pub enclosed : {k : Over} {h within : Having} {tape : List Op} {f : Around → List Start} (opening closing : Op)
     (into : Rounds → Rounds) (inside : Around → Around) (g : Around → List Start) →
     ((st : State) (r : Rounds) → starts_at k st r opening ≡ []) →

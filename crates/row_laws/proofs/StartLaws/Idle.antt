@@ -1,6 +1,6 @@
 -- Tapes along which no skeleton begins, and parts of tapes that are said in two ways.
 use Rattle.std.proofs.Common.{◌≡◌, ℕ, Bool, true, false, List, [], ◌∷◌, ◌++◌, Option, None, Some, refl, ◌∙◌, ap}
-use Rattle.std.specs.Prelude.{◌&&◌}
+use Rattle.qual_base.proofs.Tests.{and_second, and_first}
 use Rattle.c_syntax.specs.declared.parts.Identifier.{Identifier}
 use Rattle.c_syntax.specs.declared.parts.Qual.{Qual}
 use Rattle.c_syntax.specs.declared.parts.PointerWord.{PointerWord}
@@ -17,7 +17,7 @@ use Rattle.tape_ops.specs.declared.initialiser.InitOp.TheVariants as inits
 use Rattle.c_tree.specs.Tree.{Exprs, no_exprs, more_exprs, SpecWords, no_words, more_words, SpecWord, storage, thread, inline_word, noreturn, qualifier, basic, struct_type, enum_type, typedef_name, attribute, Declr, pointer, declr_name, declr_paren, array, params, abs_pointer, abs_paren, abs_array, abs_params, SomeDeclr, no_declr, some_declr, Params, no_params, more_params, Init, init_value, init_braced, InitList, init_list, InitItems, no_init_items, more_init_items, Desigs, no_desigs, more_desigs, member_desig, index_desig, BlockItems, no_block_items, more_block_items, block_decl, block_stmt, Stmt, block, expr_stmt, attr_stmt, label, case_stmt, default_stmt, if_stmt, switch_stmt, while_stmt, do_stmt, for_stmt, goto_stmt, continue_stmt, break_stmt, return_stmt, asm_stmt, no_expr, some_expr, Dots, identifiers, base_name, range_desig, old_desig, block_labels, case_range, goto_value, typeof_value, typeof_type, align, auto_word}
 use Rattle.c_tree.specs.Firsts.{qual_token}
 use Rattle.c_tree.specs.Ends.{first_token, last_token}
-use Rattle.c_tape.specs.Tests.{is_bare_word, is_name, says_none, has_ellipsis}
+use Rattle.c_tape.specs.Tests.{is_bare_word, says_none, has_ellipsis}
 use Rattle.c_tape.specs.Tests as tape_tests
 use Rattle.c_tape.specs.Tape.{count, pointer_words_tape, array_words_tape, quals_tape, dots_tape, pieces, some_pieces, arguments, tag_tape, rule, rule_of_list, rule_of_items, desigs_tape}
 use Rattle.type_rules.specs.Tokens.{is_bare}
@@ -166,20 +166,6 @@ module _ (k : Over) where
 
 -- what is said in two ways
 
--- whether a declarator is a bare name is the same by tapes and by rules
-pub same_bare : (d : Declr) → is_name d ≡ is_bare d
-same_bare (pointer star words d) = refl
-same_bare (declr_name token name) = refl
-same_bare (declr_paren opening attrs d closing) = same_bare d
-same_bare (array d opening words size closing) = refl
-same_bare (params d opening ps dots closing) = refl
-same_bare (abs_pointer star words d) = refl
-same_bare (abs_paren opening attrs d closing) = refl
-same_bare (abs_array d opening words size closing) = refl
-same_bare (abs_params d opening ps dots closing) = refl
-same_bare (identifiers d opening names closing) = refl
-same_bare (base_name token) = refl
-
 -- whether a statement has a value is the same by tapes and by rules
 same_value : (t : Stmt) → tape_tests.is_value t ≡ starts.is_value_stmt t
 same_value (block opening items closing) = refl
@@ -212,14 +198,6 @@ same_end (more_block_items item (more_block_items item2 items)) = same_end (more
 
 -- in a list of parameters that says that there are none, no skeleton begins
 
-left_of : (a b : Bool) → (a && b) ≡ true → a ≡ true
-left_of true b e = refl
-left_of false b e = e
-
-right_of : (a b : Bool) → (a && b) ≡ true → b ≡ true
-right_of true b e = e
-right_of false b e = absurd cc
-
 -- no skeleton begins in a word of specifiers that has no body and no type by parentheses
 bare_word : (a : Around) (word : SpecWord) → is_bare_word word ≡ true → word_starts a word ≡ []
 bare_word a (storage word) e = refl
@@ -242,8 +220,8 @@ bare_words : (a : Around) (ws : SpecWords) → tape_tests.is_bare ws ≡ true �
 bare_words a no_words e = refl
 bare_words a (more_words word ws) e =
     ap (λ (before : List Start). before ++ words_starts a ws)
-    (bare_word a word (left_of (is_bare_word word) (tape_tests.is_bare ws) e))
-    ∙ bare_words a ws (right_of (is_bare_word word) (tape_tests.is_bare ws) e)
+    (bare_word a word (and_first (is_bare_word word) (tape_tests.is_bare ws) e))
+    ∙ bare_words a ws (and_second (is_bare_word word) (tape_tests.is_bare ws) e)
 
 -- no skeleton begins in a list of parameters that says that there are none
 pub none_said : (a : Around) (h : Having) (ps : Params) → says_none ps ≡ true → params_starts a h ps ≡ []

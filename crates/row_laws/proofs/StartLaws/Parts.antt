@@ -146,12 +146,14 @@ module _ (k : Over) where
       of_three (λ a. expr_starts a e) (λ a. expr_starts a e2) (binary_starts sign e e2 token)
       (followed (ops.Expr (exprs.Binary sign token (first_token e) (last_token e2))) (binary_starts sign e e2 token)
       (join (silent p m) q)
-      (λ st r. ap (λ (it : State). starts_at k it r (ops.Expr (exprs.Binary sign token (first_token e) (last_token e2))))
+      (λ st r.
+      ap (λ (it : State). starts_at k it r (ops.Expr (exprs.Binary sign token (first_token e) (last_token e2))))
       (operands_left k e (binary sign) e2 st)) (λ ds r. refl))
 
   -- forms with a type's name
 
-  pub cast_finds : {h : Having} (f g i : Around → List Start) (opening : ℕ) (ws : SpecWords) (d : SomeDeclr) (e : Expr) →
+  pub cast_finds : {h : Having} (f g i : Around → List Start) (opening : ℕ) (ws : SpecWords)
+      (d : SomeDeclr) (e : Expr) →
       Finds k h (type_name_tape k ws d) (λ a. f a ++ g a) →
       Finds k h (expr_tape false e) i →
       Finds k h (type_name_tape k ws d ++ expr_tape false e ++ ops.Form (forms.Cast opening (last_token e)) ∷ [])
@@ -161,7 +163,8 @@ module _ (k : Over) where
       (followed (ops.Form (forms.Cast opening (last_token e))) (λ a. some_fresh a opening (type_at a ws)) (join p q)
       (λ st r. ap (some_fresh (at k r) opening) (cast_type k ws d e st)) (λ ds r. refl))
 
-  pub va_arg_finds : {h : Having} (f g i : Around → List Start) (keyword : ℕ) (e : Expr) (ws : SpecWords) (d : SomeDeclr)
+  pub va_arg_finds : {h : Having} (f g i : Around → List Start) (keyword : ℕ) (e : Expr) (ws : SpecWords)
+      (d : SomeDeclr)
       (closing : ℕ) → Finds k h (expr_tape false e) f →
       Finds k h (type_name_tape k ws d) (λ a. g a ++ i a) →
       Finds k h (expr_tape false e ++ type_name_tape k ws d ++ ops.Form (forms.VaArg keyword closing) ∷ [])
@@ -173,7 +176,8 @@ module _ (k : Over) where
       ∙ ap (λ (starts : List Start). f (at k r) ++ starts)
       (append_assoc (g (at k r)) (i (at k r)) (some_fresh (at k r) keyword (type_at (at k r) ws))))
 
-  pub literal_finds : {h : Having} (f g i : Around → List Start) (opening : ℕ) (ws : SpecWords) (d : SomeDeclr) (list : InitList) →
+  pub literal_finds : {h : Having} (f g i : Around → List Start) (opening : ℕ) (ws : SpecWords) (d : SomeDeclr)
+      (list : InitList) →
       Finds k h (type_name_tape k ws d) (λ a. f a ++ g a) →
       Finds k h (list_tape list) i →
       Finds k h
@@ -191,13 +195,17 @@ module _ (k : Over) where
   -- operators before an operand
 
   pub prefix_finds : {h : Having} (token : ℕ) (p : Punct) (e : Expr) (aims : Bool) →
-      Finds k h (tape_in false true e) (λ a. expr_starts a e) → Finds k h (tape_in false false e) (λ a. expr_starts a e) →
-      Finds k h (prefix_tape token p e aims (tape_in false true e) (tape_in false false e)) (λ a. expr_starts a (prefix token p e))
+      Finds k h (tape_in false true e) (λ a. expr_starts a e)
+      → Finds k h (tape_in false false e) (λ a. expr_starts a e) →
+      Finds k h (prefix_tape token p e aims (tape_in false true e) (tape_in false false e))
+      (λ a. expr_starts a (prefix token p e))
   prefix_finds token signs.Ampersand e aims p q =
       followed (ops.Expr (exprs.Prefix signs.Ampersand token (last_token e) (comes_by_pointer false e)))
-      (λ a. prefix_starts signs.Ampersand (comes_by_pointer false e && a.access) a token (shape_of a.spelling a.names e)) p
+      (λ a. prefix_starts signs.Ampersand (comes_by_pointer false e && a.access) a token
+      (shape_of a.spelling a.names e)) p
       (λ st r. ap (λ (it : State). starts_at k it r
-      (ops.Expr (exprs.Prefix signs.Ampersand token (last_token e) (comes_by_pointer false e)))) (addressed_left k e st)) (λ ds r. refl)
+      (ops.Expr (exprs.Prefix signs.Ampersand token (last_token e) (comes_by_pointer false e))))
+      (addressed_left k e st)) (λ ds r. refl)
   prefix_finds token sign e aims p q =
       followed (ops.Expr (exprs.Prefix sign token (last_token e) aims))
       (λ a. prefix_starts sign (comes_by_pointer false e && a.access) a token (shape_of a.spelling a.names e)) q
@@ -208,7 +216,8 @@ module _ (k : Over) where
   pub choose_finds : {h : Having} (keyword : ℕ) (e e2 e3 : Expr)
       → Finds k h (quietly (expr_tape false e)) (λ a. expr_starts (quiet a) e) →
       Finds k h (expr_tape false e2) (λ a. expr_starts a e2) → Finds k h (expr_tape false e3) (λ a. expr_starts a e3) →
-      Finds k h (quietly (expr_tape false e) ++ expr_tape false e2 ++ expr_tape false e3 ++ ops.Form (forms.Choose keyword) ∷ [])
+      Finds k h
+      (quietly (expr_tape false e) ++ expr_tape false e2 ++ expr_tape false e3 ++ ops.Form (forms.Choose keyword) ∷ [])
       (λ a. expr_starts (quiet a) e ++ (expr_starts a e2 ++ (expr_starts a e3
       ++ pick_starts a keyword (candidate_of a.spelling a.names e2 ∷ candidate_of a.spelling a.names e3 ∷ []))))
   choose_finds keyword e e2 e3 p q s =
@@ -217,29 +226,36 @@ module _ (k : Over) where
       (followed (ops.Form (forms.Choose keyword))
       (λ a. pick_starts a keyword (candidate_of a.spelling a.names e2 ∷ candidate_of a.spelling a.names e3 ∷ []))
       (join (join p q) s)
-      (λ st r. ap (λ (it : State). starts_at k it r (ops.Form (forms.Choose keyword))) (choice_left k e e2 e3 st)) (λ ds r. refl))
+      (λ st r. ap (λ (it : State). starts_at k it r (ops.Form (forms.Choose keyword))) (choice_left k e e2 e3 st))
+      (λ ds r. refl))
 
   selected_kept : (e : Expr) (xs : Assocs) (st : State) →
       selected_among (assoc_count xs) (with_assocs k xs (with_expr k e st))
       ≡ selected_by (value (shape_of k.spelling k.names e)) (associations_of k.spelling k.names xs)
   selected_kept e xs st =
       ap (λ (operands : List Operand). selected_by (value (shape_of_operand (first_operand operands)))
-      (associations (assoc_count xs) (with_assocs k xs (with_expr k e st)))) (under_assocs k xs (operand_of k e ∷ st.operands))
+      (associations (assoc_count xs) (with_assocs k xs (with_expr k e st))))
+      (under_assocs k xs (operand_of k e ∷ st.operands))
       ∙ ap (selected_by (value (shape_of k.spelling k.names e))) (assocs_kept k xs (with_expr k e st))
 
   pub generic_finds : {h : Having} (keyword : ℕ) (e : Expr) (xs : Assocs) →
-      Finds k h (ops.Stmt stmts.Quiet ∷ (expr_tape false e ++ ops.Form forms.Control ∷ [])) (λ a. expr_starts (quiet a) e) →
+      Finds k h (ops.Stmt stmts.Quiet ∷ (expr_tape false e ++ ops.Form forms.Control ∷ []))
+      (λ a. expr_starts (quiet a) e) →
       Finds k h (assocs_tape xs) (λ a. assocs_starts a xs) →
       Finds k h (selection_tape k e xs ++ ops.Form (forms.Generic keyword (assoc_count xs)) ∷ [])
       (λ a. expr_starts (quiet a) e ++ (assocs_starts a xs
-      ++ pick_starts a keyword (selected_by (value (shape_of a.spelling a.names e)) (associations_of a.spelling a.names xs))))
+      ++ pick_starts a keyword
+      (selected_by (value (shape_of a.spelling a.names e)) (associations_of a.spelling a.names xs))))
   generic_finds keyword e xs p q =
       of_three (λ a. expr_starts (quiet a) e) (λ a. assocs_starts a xs)
-      (λ a. pick_starts a keyword (selected_by (value (shape_of a.spelling a.names e)) (associations_of a.spelling a.names xs)))
+      (λ a. pick_starts a keyword
+      (selected_by (value (shape_of a.spelling a.names e)) (associations_of a.spelling a.names xs)))
       (followed (ops.Form (forms.Generic keyword (assoc_count xs)))
-      (λ a. pick_starts a keyword (selected_by (value (shape_of a.spelling a.names e)) (associations_of a.spelling a.names xs)))
+      (λ a. pick_starts a keyword
+      (selected_by (value (shape_of a.spelling a.names e)) (associations_of a.spelling a.names xs)))
       (join p q)
-      (λ st r. ap (λ (it : State). starts_at k it r (ops.Form (forms.Generic keyword (assoc_count xs)))) (selection_left k e xs st)
+      (λ st r. ap (λ (it : State). starts_at k it r (ops.Form (forms.Generic keyword (assoc_count xs))))
+      (selection_left k e xs st)
       ∙ ap (λ (all : List Candidate). pick_starts (at k r) keyword all) (selected_kept e xs st)) (λ ds r. refl))
 
 -- parameters
@@ -344,7 +360,8 @@ pub list_found : {k : Over} {h : Having} {list : List Op} {f : Around → List S
     naming_has k.spelling k.names (params_naming own st.declarations) ≡ h →
     found k st r (ops.Declr (declrs.ParamsBegin own) ∷ (list ++ ops.Declr declrs.ParamsEnd ∷ [])) ≡ f (at k r)
 list_found {k} {list = list} own p st r e =
-    found_append k list (ops.Declr declrs.ParamsEnd ∷ []) st (with_round (params_naming own st.declarations) (is_quiet r) r)
+    found_append k list (ops.Declr declrs.ParamsEnd ∷ []) st
+    (with_round (params_naming own st.declarations) (is_quiet r) r)
     ∙ (append-nil (found k st (with_round (params_naming own st.declarations) (is_quiet r) r) list)
     ∙ p.finds st r (params_naming own st.declarations) (is_quiet r) e)
 
@@ -400,7 +417,8 @@ pub own_joined : {k : Over} {h : Having} {xs ys : List Op} {f g : Around → Lis
     OwnFinds k h (xs ++ ys) (λ a. f a ++ g a)
 own_joined {k} {xs = xs} {ys = ys} {f = f} p q = record {
   finds = λ n st r e. found_append k xs ys (declaring None n st) r
-      ∙ (ap (λ (b : Rounds). found k (declaring None n st) r xs ++ found k (behind k (declaring None n st) xs) b ys) (p.stays n st r)
+      ∙ (ap (λ (b : Rounds). found k (declaring None n st) r xs ++ found k (behind k (declaring None n st) xs) b ys)
+      (p.stays n st r)
       ∙ (ap (λ (starts : List Start). starts ++ found k (behind k (declaring None n st) xs) r ys) (p.finds n st r e)
       ∙ ap (λ (starts : List Start). f (at k r) ++ starts) (q.finds (behind k (declaring None n st) xs) r e)));
   stays = λ n st r. rounds_append k xs ys (declaring None n st) r
@@ -409,14 +427,19 @@ own_joined {k} {xs = xs} {ys = ys} {f = f} p q = record {
 }
 
 -- a list behind a tape that leaves the name of its declarator, whose parameters have that
-pub own_listed : {k : Over} {h within : Having} {xs list : List Op} {f g : Around → List Start} (own : Bool) (name : Option ℕ) →
-    OwnFinds k h xs f → ((declared : Option ℕ) (st : State) → behind k (declaring None declared st) xs ≡ declaring name declared st) →
-    ((declared : Option ℕ) (st : State) → naming_has k.spelling k.names (params_naming own (declaring name declared st).declarations) ≡ within) →
+pub own_listed : {k : Over} {h within : Having} {xs list : List Op} {f g : Around → List Start} (own : Bool)
+    (name : Option ℕ) →
+    OwnFinds k h xs f
+    → ((declared : Option ℕ) (st : State) → behind k (declaring None declared st) xs ≡ declaring name declared st) →
+    ((declared : Option ℕ) (st : State)
+    → naming_has k.spelling k.names (params_naming own (declaring name declared st).declarations) ≡ within) →
     FindsParams k within list g →
-    OwnFinds k h (xs ++ (ops.Declr (declrs.ParamsBegin own) ∷ (list ++ ops.Declr declrs.ParamsEnd ∷ []))) (λ a. f a ++ g a)
+    OwnFinds k h (xs ++ (ops.Declr (declrs.ParamsBegin own) ∷ (list ++ ops.Declr declrs.ParamsEnd ∷ [])))
+    (λ a. f a ++ g a)
 own_listed {k} {xs = xs} {list = list} {f = f} own name p left has q = record {
   finds = λ n st r e. found_append k xs tail (declaring None n st) r
-      ∙ (ap (λ (b : Rounds). found k (declaring None n st) r xs ++ found k (behind k (declaring None n st) xs) b tail) (p.stays n st r)
+      ∙ (ap (λ (b : Rounds). found k (declaring None n st) r xs ++ found k (behind k (declaring None n st) xs) b tail)
+      (p.stays n st r)
       ∙ (ap (λ (starts : List Start). starts ++ found k (behind k (declaring None n st) xs) r tail) (p.finds n st r e)
       ∙ ap (λ (starts : List Start). f (at k r) ++ starts)
       (ap (λ (b : State). found k b r tail) (left n st) ∙ list_found own q (declaring name n st) r (has n st))));

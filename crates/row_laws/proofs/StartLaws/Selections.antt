@@ -2,6 +2,7 @@
 use Rattle.std.proofs.Common.{◌≡◌, ℕ, Bool, true, false, List, [], ◌∷◌, ◌++◌, Option, None, Some, refl, sym, ◌∙◌, ap, append_assoc}
 use Rattle.std.specs.Prelude.{◌&&◌, if◌then◌else◌}
 use Rattle.std.proofs.lemmas.List.{append-nil}
+use Rattle.qual_base.proofs.Tests.{and_second, and_first}
 use Rattle.c_words.specs.declared.kinds.Punct.{Punct}
 use Rattle.c_words.specs.declared.kinds.Punct.TheVariants as signs
 use Rattle.c_words.specs.declared.kinds.Keyword.TheVariants as keywords
@@ -60,7 +61,8 @@ selections_append k [] ys st = refl
 selections_append k (op ∷ xs) ys st =
     ap (λ (all : List Selection). op_selections k.spelling st op ++ all)
     (selections_append k xs ys (step k.spelling k.names st op))
-    ∙ sym (append_assoc (op_selections k.spelling st op) (selections_found k.spelling k.names (step k.spelling k.names st op) xs)
+    ∙ sym (append_assoc (op_selections k.spelling st op)
+    (selections_found k.spelling k.names (step k.spelling k.names st op) xs)
     (selections_found k.spelling k.names (behind k (step k.spelling k.names st op) xs) ys))
 
 -- two tapes with their selections are, joined, a tape with the selections of both
@@ -123,14 +125,6 @@ either false p q = q refl
 
 -- what is plain has none
 
-left_of : (a b : Bool) → (a && b) ≡ true → a ≡ true
-left_of true b e = refl
-left_of false b e = e
-
-right_of : (a b : Bool) → (a && b) ≡ true → b ≡ true
-right_of true b e = e
-right_of false b e = absurd cc
-
 module _ (k : Over) where
   abbrev u : Spelling
   u = k.spelling
@@ -162,7 +156,8 @@ module _ (k : Over) where
 
   mutual
     pieces_none : (d : Declr) → Selects k (pieces d) []
-    pieces_none (pointer star words d) = join (after (ops.Declr declrs.Pointer) (pointer_words_none words) (λ st. refl)) (pieces_none d)
+    pieces_none (pointer star words d) =
+        join (after (ops.Declr declrs.Pointer) (pointer_words_none words) (λ st. refl)) (pieces_none d)
     pieces_none (declr_name token name) = nothing
     pieces_none (declr_paren opening attrs d closing) = pieces_none d
     pieces_none (array d opening words size closing) =
@@ -175,8 +170,10 @@ module _ (k : Over) where
     pieces_none (abs_array d opening words size closing) =
         join (after (ops.Declr declrs.Array) (array_words_none words) (λ st. refl)) (some_pieces_none d)
     pieces_none (abs_params d opening ps dots closing) =
-        join (after (ops.Declr (declrs.Function (has_ellipsis ps dots))) (dots_none dots) (λ st. refl)) (some_pieces_none d)
-    pieces_none (identifiers d opening names closing) = before (ops.Declr (declrs.Function false)) (λ st. refl) (pieces_none d)
+        join (after (ops.Declr (declrs.Function (has_ellipsis ps dots))) (dots_none dots) (λ st. refl))
+        (some_pieces_none d)
+    pieces_none (identifiers d opening names closing) =
+        before (ops.Declr (declrs.Function false)) (λ st. refl) (pieces_none d)
     pieces_none (base_name token) = nothing
 
     some_pieces_none : (d : SomeDeclr) → Selects k (some_pieces d) []
@@ -194,7 +191,8 @@ module _ (k : Over) where
   body_selects kind keyword None p =
       after (ops.Spec specs.BodyEnd) (before (ops.Spec (specs.Untagged kind keyword)) (λ st. refl) p) (λ st. refl)
   body_selects kind keyword (Some tag) p =
-      after (ops.Spec specs.BodyEnd) (before (ops.Spec (specs.TagBody kind tag.token tag.name)) (λ st. refl) p) (λ st. refl)
+      after (ops.Spec specs.BodyEnd)
+      (before (ops.Spec (specs.TagBody kind tag.token tag.name)) (λ st. refl) p) (λ st. refl)
 
   unnamed_word_none : (word : SpecWord) → Selects k (unnamed_word_tape word) []
   unnamed_word_none (struct_type word attrs None body) = one (ops.Spec (specs.UnnamedMember word.token)) (λ st. refl)
@@ -212,10 +210,14 @@ module _ (k : Over) where
 
   desigs_none : (ds : Desigs) → Selects k (desigs_tape ds) []
   desigs_none no_desigs = nothing
-  desigs_none (more_desigs (member_desig token name) ds) = before (ops.Init (inits.Member name.token name.name)) (λ st. refl) (desigs_none ds)
-  desigs_none (more_desigs (index_desig opening e closing) ds) = before (ops.Init (inits.Index opening)) (λ st. refl) (desigs_none ds)
-  desigs_none (more_desigs (range_desig opening e dots e2 closing) ds) = before (ops.Init (inits.Index opening)) (λ st. refl) (desigs_none ds)
-  desigs_none (more_desigs (old_desig name colon) ds) = before (ops.Init (inits.Member name.token name.name)) (λ st. refl) (desigs_none ds)
+  desigs_none (more_desigs (member_desig token name) ds) =
+      before (ops.Init (inits.Member name.token name.name)) (λ st. refl) (desigs_none ds)
+  desigs_none (more_desigs (index_desig opening e closing) ds) =
+      before (ops.Init (inits.Index opening)) (λ st. refl) (desigs_none ds)
+  desigs_none (more_desigs (range_desig opening e dots e2 closing) ds) =
+      before (ops.Init (inits.Index opening)) (λ st. refl) (desigs_none ds)
+  desigs_none (more_desigs (old_desig name colon) ds) =
+      before (ops.Init (inits.Member name.token name.name)) (λ st. refl) (desigs_none ds)
 
   mutual
     rule_none : (i : Init) → Selects k (rule i) []
@@ -224,15 +226,18 @@ module _ (k : Over) where
 
     rule_list_none : (list : InitList) → Selects k (rule_of_list list) []
     rule_list_none (init_list opening items last closing) =
-        after (ops.Init inits.ListEnd) (before (ops.Init inits.ListBegin) (λ st. refl) (rule_items_none items)) (λ st. refl)
+        after (ops.Init inits.ListEnd)
+        (before (ops.Init inits.ListBegin) (λ st. refl) (rule_items_none items)) (λ st. refl)
 
     rule_items_none : (items : InitItems) → Selects k (rule_of_items items) []
     rule_items_none no_init_items = nothing
-    rule_items_none (more_init_items ds equal i items) = join (join (desigs_none ds) (rule_none i)) (rule_items_none items)
+    rule_items_none (more_init_items ds equal i items) =
+        join (join (desigs_none ds) (rule_none i)) (rule_items_none items)
 
   identifiers_none : (names : List Identifier) → Selects k (identifiers_tape names) []
   identifiers_none [] = nothing
-  identifiers_none (name ∷ names) = before (ops.Declr (declrs.Identifier name.token name.name)) (λ st. refl) (identifiers_none names)
+  identifiers_none (name ∷ names) =
+      before (ops.Declr (declrs.Identifier name.token name.name)) (λ st. refl) (identifiers_none names)
 
   -- a list that says that there are no parameters
 
@@ -247,8 +252,8 @@ module _ (k : Over) where
   bare_words no_words e = refl
   bare_words (more_words word ws) e =
       ap (λ (all : List Selection). all ++ words_selections u s ws)
-      (bare_word word (left_of (is_bare_word word) (tape_tests.is_bare ws) e))
-      ∙ bare_words ws (right_of (is_bare_word word) (tape_tests.is_bare ws) e)
+      (bare_word word (and_first (is_bare_word word) (tape_tests.is_bare ws) e))
+      ∙ bare_words ws (and_second (is_bare_word word) (tape_tests.is_bare ws) e)
 
   none_said : (ps : Params) → says_none ps ≡ true → params_selections u s ps ≡ []
   none_said no_params e = refl
@@ -264,7 +269,8 @@ module _ (k : Over) where
   params_with_select : (own : Bool) (ps : Params) → Selects k (params_tape ps) (params_selections u s ps) →
       Selects k (params_with own (says_none ps) (params_tape ps)) (params_selections u s ps)
   params_with_select own ps p =
-      after (ops.Declr declrs.ParamsEnd) (before (ops.Declr (declrs.ParamsBegin own)) (λ st. refl) (listed ps (says_none ps) refl p)) (λ st. refl)
+      after (ops.Declr declrs.ParamsEnd)
+      (before (ops.Declr (declrs.ParamsBegin own)) (λ st. refl) (listed ps (says_none ps) refl p)) (λ st. refl)
 
   -- parts
 
@@ -297,7 +303,8 @@ module _ (k : Over) where
       after (ops.Expr (exprs.Cond false token (first_token e) (last_token e2))) (join (silent p m) q) (λ st. refl)
   operation_selects e (cond (some_expr m) colon) token e2 called aims p v q =
       after (ops.Expr (exprs.Cond true token (first_token e) (last_token e2)))
-      (in_three (expr_selections u s e) (expr_selections u s m) (expr_selections u s e2) (join (join p v) q)) (λ st. refl)
+      (in_three (expr_selections u s e) (expr_selections u s m) (expr_selections u s e2)
+      (join (join p v) q)) (λ st. refl)
   operation_selects e (binary sign) token e2 called aims p m q =
       after (ops.Expr (exprs.Binary sign token (first_token e) (last_token e2))) (join (silent p m) q) (λ st. refl)
 
@@ -312,28 +319,36 @@ module _ (k : Over) where
       op_selections u (behind k st (selection_tape k e xs)) (ops.Form (forms.Generic keyword (assoc_count xs))) ≡
       selection_of u keyword (value (shape_of u s e)) (associations_of u s xs)
   flags_left keyword e xs st =
-      ap (λ (it : State). op_selections u it (ops.Form (forms.Generic keyword (assoc_count xs)))) (selection_left k e xs st)
+      ap (λ (it : State). op_selections u it (ops.Form (forms.Generic keyword (assoc_count xs))))
+      (selection_left k e xs st)
       ∙ (ap (λ (operands : List Operand). selection_of u keyword (value (shape_of_operand (first_operand operands)))
-      (associations (assoc_count xs) (with_assocs k xs (with_expr k e st)))) (under_assocs k xs (operand_of k e ∷ st.operands))
+      (associations (assoc_count xs) (with_assocs k xs (with_expr k e st))))
+      (under_assocs k xs (operand_of k e ∷ st.operands))
       ∙ ap (selection_of u keyword (value (shape_of u s e))) (assocs_kept k xs (with_expr k e st)))
 
   mutual
     expr_select : (e : Expr) → (called aims : Bool) → Selects k (tape_in called aims e) (expr_selections u s e)
     expr_select (operation e op token e2) called aims =
-        operation_selects e op token e2 called aims (expr_select e false false) (middle_select op) (expr_select e2 false false)
+        operation_selects e op token e2 called aims (expr_select e false false) (middle_select op)
+        (expr_select e2 false false)
     expr_select (cast opening ws d closing e) called aims =
         after (ops.Form (forms.Cast opening (last_token e)))
         (in_three (words_selections u s ws) (some_declr_selections u s d) (expr_selections u s e)
-        (join (type_name_selects (first_word ws) (words_select ws false) (some_declr_select d)) (expr_select e false false))) (λ st. refl)
-    expr_select (prefix token p e) called aims = prefix_selects token p e aims (expr_select e false true) (expr_select e false false)
+        (join (type_name_selects (first_word ws) (words_select ws false) (some_declr_select d))
+        (expr_select e false false))) (λ st. refl)
+    expr_select (prefix token p e) called aims =
+        prefix_selects token p e aims (expr_select e false true) (expr_select e false false)
     expr_select (sizeof_value word e) called aims =
-        after (ops.Form (forms.Sizeof word.token)) (before (ops.Stmt stmts.Quiet) (λ st. refl) (expr_select e false false)) (λ st. refl)
+        after (ops.Form (forms.Sizeof word.token))
+        (before (ops.Stmt stmts.Quiet) (λ st. refl) (expr_select e false false)) (λ st. refl)
     expr_select (sizeof_type word opening ws d closing) called aims =
         after (ops.Form (forms.Sizeof word.token)) (before (ops.Stmt stmts.Quiet) (λ st. refl)
         (type_name_selects (first_word ws) (words_select ws false) (some_declr_select d))) (λ st. refl)
-    expr_select (extension keyword e) called aims = after (ops.Expr (exprs.Ext keyword)) (expr_select e false aims) (λ st. refl)
+    expr_select (extension keyword e) called aims =
+        after (ops.Expr (exprs.Ext keyword)) (expr_select e false aims) (λ st. refl)
     expr_select (index e opening e2 closing) called aims =
-        after (ops.Expr (exprs.Index opening (first_token e) closing aims)) (join (expr_select e false false) (expr_select e2 false false)) (λ st. refl)
+        after (ops.Expr (exprs.Index opening (first_token e) closing aims))
+        (join (expr_select e false false) (expr_select e2 false false)) (λ st. refl)
     expr_select (call e opening es closing) called aims =
         after (ops.Expr (exprs.Call opening (count es)))
         (silent (join (expr_select e true false) (exprs_select es)) (arguments_none es)) (λ st. refl)
@@ -341,51 +356,63 @@ module _ (k : Over) where
         after (ops.Expr (exprs.Dot token name.token name.name)) (expr_select e false aims) (λ st. refl)
     expr_select (arrow e token name) called aims =
         after (ops.Expr (exprs.Dot token name.token name.name))
-        (after (ops.Expr (exprs.Arrow token (first_token e) name.token aims)) (expr_select e false false) (λ st. refl)) (λ st. refl)
+        (after (ops.Expr (exprs.Arrow token (first_token e) name.token aims)) (expr_select e false false)
+        (λ st. refl)) (λ st. refl)
     expr_select (post e token p) called aims =
         after (ops.Expr (exprs.Post p token (first_token e))) (expr_select e false false) (λ st. refl)
     expr_select (compound opening ws d closing list) called aims =
         after (ops.Init inits.LiteralEnd) (silent (after (ops.Init (inits.Literal opening))
         (in_three (words_selections u s ws) (some_declr_selections u s d) (init_list_selections u s list)
-        (join (after (ops.Init inits.Begin) (type_name_selects (first_word ws) (words_select ws false) (some_declr_select d)) (λ st. refl))
+        (join (after (ops.Init inits.Begin)
+        (type_name_selects (first_word ws) (words_select ws false) (some_declr_select d)) (λ st. refl))
         (list_select list))) (λ st. refl)) (rule_list_none list)) (λ st. refl)
     expr_select (name_use token name) called aims = one (ops.Expr (exprs.Name called token name)) (λ st. refl)
     expr_select (number_use token) called aims = one (ops.Expr (exprs.Number token)) (λ st. refl)
     expr_select (char_use token) called aims = one (ops.Expr (exprs.Char token)) (λ st. refl)
     expr_select (text_use texts) called aims = one (ops.Expr (exprs.Text (first_text texts))) (λ st. refl)
-    expr_select (paren opening e closing) called aims = after (ops.Expr (exprs.Paren opening)) (expr_select e false aims) (λ st. refl)
+    expr_select (paren opening e closing) called aims =
+        after (ops.Expr (exprs.Paren opening)) (expr_select e false aims) (λ st. refl)
     expr_select (statement_expr opening opening2 items closing closing2) called aims =
-        after (ops.Form (forms.StmtExpr (tape_tests.ends_in_value items) opening)) (scoped (block_items_select items true)) (λ st. refl)
+        after (ops.Form (forms.StmtExpr (tape_tests.ends_in_value items) opening))
+        (scoped (block_items_select items true)) (λ st. refl)
     expr_select (va_arg keyword opening e separator ws d closing) called aims =
         after (ops.Form (forms.VaArg keyword closing))
-        (join (expr_select e false false) (type_name_selects (first_word ws) (words_select ws false) (some_declr_select d))) (λ st. refl)
+        (join (expr_select e false false)
+        (type_name_selects (first_word ws) (words_select ws false) (some_declr_select d))) (λ st. refl)
     expr_select (va_start keyword opening e separator e2 closing) called aims =
-        after (ops.Form (forms.VaStart keyword closing)) (join (expr_select e false false) (expr_select e2 false false)) (λ st. refl)
+        after (ops.Form (forms.VaStart keyword closing))
+        (join (expr_select e false false) (expr_select e2 false false)) (λ st. refl)
     expr_select (va_copy keyword opening e separator e2 closing) called aims =
-        after (ops.Form (forms.VaCopy keyword closing)) (join (expr_select e false false) (expr_select e2 false false)) (λ st. refl)
+        after (ops.Form (forms.VaCopy keyword closing))
+        (join (expr_select e false false) (expr_select e2 false false)) (λ st. refl)
     expr_select (offset keyword opening ws d separator name steps closing) called aims =
         after (ops.Form (forms.Offset keyword))
         (in_three (words_selections u s ws) (some_declr_selections u s d) (desigs_selections u s steps)
         (join (after (ops.Form (forms.OffsetMember name.token name.name)) (before (ops.Stmt stmts.Quiet) (λ st. refl)
-        (type_name_selects (first_word ws) (words_select ws false) (some_declr_select d))) (λ st. refl)) (steps_select steps))) (λ st. refl)
-    expr_select (complex_part keyword e) called aims = after (ops.Expr (exprs.Ext keyword)) (expr_select e false aims) (λ st. refl)
+        (type_name_selects (first_word ws) (words_select ws false) (some_declr_select d))) (λ st. refl))
+        (steps_select steps))) (λ st. refl)
+    expr_select (complex_part keyword e) called aims =
+        after (ops.Expr (exprs.Ext keyword)) (expr_select e false aims) (λ st. refl)
     expr_select (label_use token name) called aims = one (ops.Expr (exprs.Label token)) (λ st. refl)
     expr_select (compat keyword opening ws d separator ws2 d2 closing) called aims =
         after (ops.Form (forms.Compat keyword))
-        (in_pairs (words_selections u s ws) (some_declr_selections u s d) (words_selections u s ws2) (some_declr_selections u s d2)
+        (in_pairs (words_selections u s ws) (some_declr_selections u s d) (words_selections u s ws2)
+        (some_declr_selections u s d2)
         (join (before (ops.Stmt stmts.Quiet) (λ st. refl)
         (type_name_selects (first_word ws) (words_select ws false) (some_declr_select d)))
         (type_name_selects (first_word ws2) (words_select ws2 false) (some_declr_select d2)))) (λ st. refl)
     expr_select (choose keyword opening e separator e2 separator2 e3 closing) called aims =
         after (ops.Form (forms.Choose keyword))
         (in_three (expr_selections u s e) (expr_selections u s e2) (expr_selections u s e3)
-        (join (join (quiet_selects (expr_select e false false)) (expr_select e2 false false)) (expr_select e3 false false))) (λ st. refl)
+        (join (join (quiet_selects (expr_select e false false)) (expr_select e2 false false))
+        (expr_select e3 false false))) (λ st. refl)
     expr_select (generic keyword opening e xs closing) called aims =
         in_three (expr_selections u s e) (assocs_selections u s xs)
         (selection_of u keyword (value (shape_of u s e)) (associations_of u s xs))
         (ending (ops.Form (forms.Generic keyword (assoc_count xs)))
         (selection_of u keyword (value (shape_of u s e)) (associations_of u s xs))
-        (join (after (ops.Form forms.Control) (before (ops.Stmt stmts.Quiet) (λ st. refl) (expr_select e false false)) (λ st. refl))
+        (join (after (ops.Form forms.Control)
+        (before (ops.Stmt stmts.Quiet) (λ st. refl) (expr_select e false false)) (λ st. refl))
         (assocs_select xs)) (flags_left keyword e xs))
 
     assocs_select : (xs : Assocs) → Selects k (assocs_tape xs) (assocs_selections u s xs)
@@ -395,8 +422,10 @@ module _ (k : Over) where
     assoc_select : (x : Assoc) → Selects k (assoc_tape x) (assoc_selections u s x)
     assoc_select (typed_assoc ws d colon e) =
         in_three (words_selections u s ws) (some_declr_selections u s d) (expr_selections u s e)
-        (join (type_name_selects (first_word ws) (words_select ws false) (some_declr_select d)) (expr_select e false false))
-    assoc_select (default_assoc keyword colon e) = before (ops.Form forms.NoType) (λ st. refl) (expr_select e false false)
+        (join (type_name_selects (first_word ws) (words_select ws false) (some_declr_select d))
+        (expr_select e false false))
+    assoc_select (default_assoc keyword colon e) =
+        before (ops.Form forms.NoType) (λ st. refl) (expr_select e false false)
 
     middle_select : (op : Operator) → Selects k (middle_tape op) (middle_selections op)
     middle_select comma = nothing
@@ -422,9 +451,11 @@ module _ (k : Over) where
 
     step_select : (d : Desig) → Selects k (step_tape d) (desig_selections u s d)
     step_select (member_desig token name) = one (ops.Form (forms.OffsetMember name.token name.name)) (λ st. refl)
-    step_select (index_desig opening e closing) = after (ops.Form (forms.OffsetIndex opening)) (expr_select e false false) (λ st. refl)
+    step_select (index_desig opening e closing) =
+        after (ops.Form (forms.OffsetIndex opening)) (expr_select e false false) (λ st. refl)
     step_select (range_desig opening e dots e2 closing) =
-        after (ops.Form (forms.OffsetIndex opening)) (join (expr_select e false false) (quiet_selects (expr_select e2 false false))) (λ st. refl)
+        after (ops.Form (forms.OffsetIndex opening))
+        (join (expr_select e false false) (quiet_selects (expr_select e2 false false))) (λ st. refl)
     step_select (old_desig name colon) = one (ops.Form (forms.OffsetMember name.token name.name)) (λ st. refl)
 
     -- specifiers
@@ -439,13 +470,16 @@ module _ (k : Over) where
     word_select (inline_word token) alone = one (ops.Spec (specs.Storage keywords.Inline)) (λ st. refl)
     word_select (noreturn token) alone = nothing
     word_select (qualifier q) alone = one (ops.Spec (specs.Word (qual_token q))) (λ st. refl)
-    word_select (basic word) alone = either (is_void word.keyword) (λ e. one (ops.Spec specs.Void) (λ st. refl)) (λ e. nothing)
-    word_select (struct_type word attrs tag body) alone = struct_select body alone (tag_kind word.keyword) word.token tag
+    word_select (basic word) alone =
+        either (is_void word.keyword) (λ e. one (ops.Spec specs.Void) (λ st. refl)) (λ e. nothing)
+    word_select (struct_type word attrs tag body) alone =
+        struct_select body alone (tag_kind word.keyword) word.token tag
     word_select (enum_type e) alone = enum_select e
     word_select (typedef_name name) alone = one (ops.Spec (specs.Typedef name.token name.name)) (λ st. refl)
     word_select (attribute attr) alone = nothing
     word_select (typeof_value keyword opening e closing) alone =
-        quiet_selects (after (ops.Spec (specs.TypeofEnd closing)) (before (ops.Spec specs.PartBegin) (λ st. refl) (expr_select e false false)) (λ st. refl))
+        quiet_selects (after (ops.Spec (specs.TypeofEnd closing))
+        (before (ops.Spec specs.PartBegin) (λ st. refl) (expr_select e false false)) (λ st. refl))
     word_select (typeof_type word opening ws d closing) alone =
         after (ops.Spec specs.TypeEnd) (before (ops.Spec specs.PartBegin) (λ st. refl)
         (type_name_selects (first_word ws) (words_select ws false) (some_declr_select d))) (λ st. refl)
@@ -455,7 +489,8 @@ module _ (k : Over) where
     struct_select : (body : SomeBody) → (alone : Bool) (kind : TagKind) (keyword : ℕ) (tag : Option Identifier) →
         Selects k (struct_tape alone kind keyword tag body) (some_body_selections u s body)
     struct_select no_body alone kind keyword tag = tag_none alone kind tag
-    struct_select (some_body opening items closing) alone kind keyword tag = body_selects kind keyword tag (struct_items_select items)
+    struct_select (some_body opening items closing) alone kind keyword tag =
+        body_selects kind keyword tag (struct_items_select items)
 
     struct_items_select : (items : StructItems)
         → Selects k (struct_items_tape items) (struct_items_selections u s items)
@@ -465,7 +500,8 @@ module _ (k : Over) where
     struct_item_select : (item : StructItem) → Selects k (struct_item_tape item) (struct_item_selections u s item)
     struct_item_select (member exts ws ds semi) =
         after (ops.Declr declrs.DeclarationEnd)
-        (join (after (ops.Spec specs.SpecsEnd) (words_select ws false) (λ st. refl)) (members_select ds ws)) (λ st. refl)
+        (join (after (ops.Spec specs.SpecsEnd) (words_select ws false) (λ st. refl))
+        (members_select ds ws)) (λ st. refl)
     struct_item_select (member_semi semi) = nothing
     struct_item_select (member_assert it) = nothing
 
@@ -479,7 +515,8 @@ module _ (k : Over) where
 
     mem_declr_select : (d : MemDeclr) → Selects k (mem_declr_tape d) (mem_declr_selections u s d)
     mem_declr_select (named d width attrs) =
-        join (after (ops.Declr declrs.Member) (silent (contents_select d false) (pieces_none d)) (λ st. refl)) (some_value_select width)
+        join (after (ops.Declr declrs.Member) (silent (contents_select d false) (pieces_none d)) (λ st. refl))
+        (some_value_select width)
     mem_declr_select (unnamed colon e attrs) = quiet_selects (expr_select e false false)
 
     some_value_select : (it : SomeValue) → Selects k (some_value_tape it) (some_value_selections u s it)
@@ -488,12 +525,14 @@ module _ (k : Over) where
 
     enum_select : (e : EnumType) → Selects k (enum_tape e) (enum_selections u s e)
     enum_select (enum_of keyword attrs tag no_enum_body) = tag_none false tags.Enum tag
-    enum_select (enum_of keyword attrs tag (some_enum_body opening es last closing)) = body_selects tags.Enum keyword tag (enumerators_select es)
+    enum_select (enum_of keyword attrs tag (some_enum_body opening es last closing)) =
+        body_selects tags.Enum keyword tag (enumerators_select es)
 
     enumerators_select : (es : Enumerators) → Selects k (enumerators_tape es) (enumerators_selections u s es)
     enumerators_select no_enumerators = nothing
     enumerators_select (more_enumerators name attrs number es) =
-        join (after (ops.Spec (specs.Enumerator name.token name.name)) (some_value_select number) (λ st. refl)) (enumerators_select es)
+        join (after (ops.Spec (specs.Enumerator name.token name.name)) (some_value_select number) (λ st. refl))
+        (enumerators_select es)
 
     -- declarators
 
@@ -510,7 +549,8 @@ module _ (k : Over) where
     contents_select (abs_params d opening ps dots closing) own =
         join (some_contents_select d) (params_with_select false ps (params_select ps))
     contents_select (identifiers d opening names closing) own =
-        after (ops.Declr declrs.ParamsEnd) (after (ops.Declr (declrs.ParamsBegin false)) (contents_select d own) (λ st. refl)) (λ st. refl)
+        after (ops.Declr declrs.ParamsEnd)
+        (after (ops.Declr (declrs.ParamsBegin false)) (contents_select d own) (λ st. refl)) (λ st. refl)
     contents_select (base_name token) own = nothing
 
     some_contents_select : (d : SomeDeclr) → Selects k (some_contents d) (some_declr_selections u s d)
@@ -533,7 +573,8 @@ module _ (k : Over) where
     params_select no_params = nothing
     params_select (more_params ws d attrs ps) =
         in_three (words_selections u s ws) (some_declr_selections u s d) (params_selections u s ps)
-        (join (after (ops.Declr declrs.Param) (join (after (ops.Spec specs.SpecsEnd) (words_select ws false) (λ st. refl))
+        (join (after (ops.Declr declrs.Param)
+        (join (after (ops.Spec specs.SpecsEnd) (words_select ws false) (λ st. refl))
         (some_declr_select d)) (λ st. refl)) (params_select ps))
 
     -- initialisers
@@ -568,7 +609,8 @@ module _ (k : Over) where
         after (ops.Init (inits.Value (first_token e) (last_token e))) (expr_select e false false) (λ st. refl)
     some_init_select (some_init equal (init_braced list)) =
         after (ops.Init inits.End) (silent (after (ops.Init inits.Rule)
-        (before (ops.Init inits.Begin) (λ st. refl) (list_select list)) (λ st. refl)) (rule_list_none list)) (λ st. refl)
+        (before (ops.Init inits.Begin) (λ st. refl) (list_select list)) (λ st. refl))
+        (rule_list_none list)) (λ st. refl)
 
     -- declarations
 
@@ -576,7 +618,8 @@ module _ (k : Over) where
     init_declrs_select no_init_declrs = nothing
     init_declrs_select (more_init_declrs attrs d asm_label attrs2 i ds) =
         in_three (declr_selections u s d) (some_init_selections u s i) (init_declrs_selections u s ds)
-        (join (join (after (ops.Declr declrs.Declare) (silent (contents_select d false) (pieces_none d)) (λ st. refl)) (some_init_select i))
+        (join (join (after (ops.Declr declrs.Declare) (silent (contents_select d false) (pieces_none d)) (λ st. refl))
+        (some_init_select i))
         (init_declrs_select ds))
 
     auto_declrs_select : (ds : InitDeclrs) → (semi : ℕ) → have_values ds ≡ true →
@@ -584,22 +627,23 @@ module _ (k : Over) where
     auto_declrs_select no_init_declrs semi have = nothing
     auto_declrs_select (more_init_declrs attrs d asm_label attrs2 i ds) semi have =
         in_three (declr_selections u s d) (some_init_selections u s i) (init_declrs_selections u s ds)
-        (join (join (contents_select d false) (auto_init_select i semi (left_of (has_value i) (have_values ds) have)))
-        (auto_declrs_select ds semi (right_of (has_value i) (have_values ds) have)))
+        (join (join (contents_select d false) (auto_init_select i semi (and_first (has_value i) (have_values ds) have)))
+        (auto_declrs_select ds semi (and_second (has_value i) (have_values ds) have)))
 
     auto_init_select : (i : SomeInit) → (semi : ℕ) → has_value i ≡ true
         → Selects k (auto_init_tape semi i) (some_init_selections u s i)
     auto_init_select no_init semi has = absurd cc
     auto_init_select (some_init equal (init_value e)) semi has =
         after (ops.Init (inits.Value (first_token e) (last_token e)))
-        (after (ops.Declr (declrs.AutoEnd semi)) (before (ops.Declr declrs.AutoBegin) (λ st. refl) (expr_select e false false)) (λ st. refl)) (λ st. refl)
+        (after (ops.Declr (declrs.AutoEnd semi))
+        (before (ops.Declr declrs.AutoBegin) (λ st. refl) (expr_select e false false)) (λ st. refl)) (λ st. refl)
     auto_init_select (some_init equal (init_braced list)) semi has = absurd cc
 
     declaration_select : (d : Declaration) → Selects k (declaration_tape d) (declaration_selections u s d)
     declaration_select (declaration exts ws ds semi) =
         after (ops.Declr declrs.DeclarationEnd)
         (join (after (ops.Spec specs.SpecsEnd) (words_select ws (declares_tag ws ds)) (λ st. refl))
-        (either (are_auto ws ds) (λ is. auto_declrs_select ds semi (right_of (has_auto ws) (have_values ds) is))
+        (either (are_auto ws ds) (λ is. auto_declrs_select ds semi (and_second (has_auto ws) (have_values ds) is))
         (λ is. init_declrs_select ds))) (λ st. refl)
 
     decl_select : (d : Decl) → Selects k (decl_tape d) (decl_selections u s d)
@@ -626,21 +670,28 @@ module _ (k : Over) where
     stmt_select (expr_stmt e semi) false = dropped_select e
     stmt_select (attr_stmt attrs semi) kept = nothing
     stmt_select (label name colon attrs t) kept = stmt_select t false
-    stmt_select (case_stmt keyword e colon t) kept = join (quiet_selects (expr_select e false false)) (stmt_select t false)
+    stmt_select (case_stmt keyword e colon t) kept =
+        join (quiet_selects (expr_select e false false)) (stmt_select t false)
     stmt_select (default_stmt keyword colon t) kept = stmt_select t false
     stmt_select (if_stmt keyword opening e closing t other) kept =
         scoped (in_three (expr_selections u s e) (stmt_selections u s t) (some_else_selections u s other)
-        (join (join (after (ops.Stmt stmts.Pop) (expr_select e false false) (λ st. refl)) (scoped (stmt_select t false)))
+        (join
+        (join (after (ops.Stmt stmts.Pop) (expr_select e false false) (λ st. refl)) (scoped (stmt_select t false)))
         (some_else_select other)))
     stmt_select (switch_stmt keyword opening e closing t) kept =
-        scoped (join (after (ops.Stmt stmts.Pop) (expr_select e false false) (λ st. refl)) (scoped (stmt_select t false)))
+        scoped
+        (join (after (ops.Stmt stmts.Pop) (expr_select e false false) (λ st. refl)) (scoped (stmt_select t false)))
     stmt_select (while_stmt keyword opening e closing t) kept =
-        scoped (join (after (ops.Stmt stmts.Pop) (expr_select e false false) (λ st. refl)) (scoped (stmt_select t false)))
+        scoped
+        (join (after (ops.Stmt stmts.Pop) (expr_select e false false) (λ st. refl)) (scoped (stmt_select t false)))
     stmt_select (do_stmt keyword t keyword2 opening e closing semi) kept =
-        scoped (after (ops.Stmt stmts.Pop) (join (scoped (stmt_select t false)) (expr_select e false false)) (λ st. refl))
+        scoped
+        (after (ops.Stmt stmts.Pop) (join (scoped (stmt_select t false)) (expr_select e false false)) (λ st. refl))
     stmt_select (for_stmt keyword opening start e semi e2 closing t) kept =
-        scoped (in_four (for_start_selections u s start) (some_expr_selections u s e) (some_expr_selections u s e2) (stmt_selections u s t)
-        (join (join (join (for_start_select start) (dropped_select e)) (dropped_select e2)) (scoped (stmt_select t false))))
+        scoped (in_four (for_start_selections u s start) (some_expr_selections u s e) (some_expr_selections u s e2)
+        (stmt_selections u s t)
+        (join (join (join (for_start_select start) (dropped_select e)) (dropped_select e2))
+        (scoped (stmt_select t false))))
     stmt_select (goto_stmt keyword name semi) kept = nothing
     stmt_select (continue_stmt keyword semi) kept = nothing
     stmt_select (break_stmt keyword semi) kept = nothing
@@ -650,8 +701,10 @@ module _ (k : Over) where
     stmt_select (asm_stmt keyword words group semi) kept = nothing
     stmt_select (case_range keyword e dots e2 colon t) kept =
         in_three (expr_selections u s e) (expr_selections u s e2) (stmt_selections u s t)
-        (join (join (quiet_selects (expr_select e false false)) (quiet_selects (expr_select e2 false false))) (stmt_select t false))
-    stmt_select (goto_value keyword star e semi) kept = after (ops.Stmt stmts.Pop) (expr_select e false false) (λ st. refl)
+        (join (join (quiet_selects (expr_select e false false)) (quiet_selects (expr_select e2 false false)))
+        (stmt_select t false))
+    stmt_select (goto_value keyword star e semi) kept =
+        after (ops.Stmt stmts.Pop) (expr_select e false false) (λ st. refl)
 
     some_else_select : (other : SomeElse) → Selects k (some_else_tape other) (some_else_selections u s other)
     some_else_select no_else = nothing
@@ -667,7 +720,8 @@ module _ (k : Over) where
   old_declrs_select no_init_declrs = nothing
   old_declrs_select (more_init_declrs attrs d asm_label attrs2 i ds) =
       in_three (declr_selections u s d) (some_init_selections u s i) (old_declrs_selections u s ds)
-      (join (join (after (ops.Declr declrs.OldParam) (silent (contents_select d false) (pieces_none d)) (λ st. refl)) (some_init_select i))
+      (join (join (after (ops.Declr declrs.OldParam) (silent (contents_select d false) (pieces_none d)) (λ st. refl))
+      (some_init_select i))
       (old_declrs_select ds))
 
   plain_selections : (ds : InitDeclrs) → init_declrs_selections u s ds ≡ old_declrs_selections u s ds
@@ -680,7 +734,7 @@ module _ (k : Over) where
       after (ops.Declr declrs.DeclarationEnd)
       (join (after (ops.Spec specs.SpecsEnd) (words_select ws (declares_tag ws ds)) (λ st. refl))
       (either (are_auto ws ds)
-      (λ is. said (auto_declrs_select ds semi (right_of (has_auto ws) (have_values ds) is)) (plain_selections ds))
+      (λ is. said (auto_declrs_select ds semi (and_second (has_auto ws) (have_values ds) is)) (plain_selections ds))
       (λ is. old_declrs_select ds))) (λ st. refl)
 
   old_declarations_select : (ds : List Declaration)
@@ -691,7 +745,8 @@ module _ (k : Over) where
   old_contents_select : (ds : List Declaration) (d : Declr)
       → Selects k (old_contents ds d) (old_declr_selections u s ds d)
   old_contents_select ds (identifiers d opening names closing) =
-      after (ops.Declr declrs.ParamsEnd) (join (silent (after (ops.Declr (declrs.ParamsBegin true)) (contents_select d false) (λ st. refl))
+      after (ops.Declr declrs.ParamsEnd)
+      (join (silent (after (ops.Declr (declrs.ParamsBegin true)) (contents_select d false) (λ st. refl))
       (identifiers_none names)) (old_declarations_select ds)) (λ st. refl)
   old_contents_select ds (pointer star words d) = old_contents_select ds d
   old_contents_select ds (declr_paren opening attrs d closing) = old_contents_select ds d
@@ -702,20 +757,24 @@ module _ (k : Over) where
   old_contents_select ds (base_name token) = nothing
   old_contents_select ds (abs_pointer star words d) = contents_select (abs_pointer star words d) false
   old_contents_select ds (abs_paren opening attrs d closing) = contents_select (abs_paren opening attrs d closing) false
-  old_contents_select ds (abs_array d opening words size closing) = contents_select (abs_array d opening words size closing) false
-  old_contents_select ds (abs_params d opening ps dots closing) = contents_select (abs_params d opening ps dots closing) false
+  old_contents_select ds (abs_array d opening words size closing) =
+      contents_select (abs_array d opening words size closing) false
+  old_contents_select ds (abs_params d opening ps dots closing) =
+      contents_select (abs_params d opening ps dots closing) false
 
   -- a function, by the contents of its declarator
   function_select : (ws : SpecWords) (d : Declr) (items : BlockItems) {ops_of : List Op} (f : List Selection)
       → Selects k ops_of f →
-      Selects k (specs_with (words_tape false ws) ++ ops_of ++ pieces d ++ ops.Declr declrs.Declare ∷ [] ++ ops.Stmt stmts.FunctionBody ∷ []
+      Selects k (specs_with (words_tape false ws) ++ ops_of ++ pieces d ++ ops.Declr declrs.Declare ∷ []
+      ++ ops.Stmt stmts.FunctionBody ∷ []
       ++ block_items_tape false items ++ ops.Stmt stmts.FunctionEnd ∷ [] ++ ops.Declr declrs.DeclarationEnd ∷ [])
       (words_selections u s ws ++ (f ++ block_items_selections u s items))
   function_select ws d items f p =
       after (ops.Declr declrs.DeclarationEnd) (after (ops.Stmt stmts.FunctionEnd)
       (in_three (words_selections u s ws) f (block_items_selections u s items)
       (join (after (ops.Stmt stmts.FunctionBody) (after (ops.Declr declrs.Declare)
-      (silent (join (after (ops.Spec specs.SpecsEnd) (words_select ws false) (λ st. refl)) p) (pieces_none d)) (λ st. refl)) (λ st. refl))
+      (silent (join (after (ops.Spec specs.SpecsEnd) (words_select ws false) (λ st. refl)) p) (pieces_none d))
+      (λ st. refl)) (λ st. refl))
       (block_items_select items false))) (λ st. refl)) (λ st. refl)
 
   item_select : (item : Item) → Selects k (item_tape item) (item_selections u s item)
@@ -733,7 +792,8 @@ module _ (k : Over) where
 
 pub selections_are_found : ShapesAreLeft → AddressedAreLeft → OldNamesAreLeft → SelectionsAreFound
 selections_are_found shaped addressed olds u s items =
-    (items_select (record { spelling = u; names = s; shaped = shaped; addressed = addressed; named = olds }) items).are no_operands
+    (items_select
+    (record { spelling = u; names = s; shaped = shaped; addressed = addressed; named = olds }) items).are no_operands
 
 -- programs
 

@@ -9,11 +9,8 @@ use Rattle.tape_ops.specs.declared.initialiser.InitOp.TheVariants as inits
 use Rattle.tape_ops.specs.declared.declarator.DeclrOp.TheVariants as declrs
 use Rattle.tape_ops.specs.declared.specifier.SpecOp.TheVariants as specs
 use Rattle.tape_ops.specs.declared.statement.StmtOp.TheVariants as stmts
-use Rattle.c_tree.specs.Tree.{Expr, cast, sizeof_type, compound, va_arg, Operator, comma, assign, cond, binary, SomeExpr, no_expr, some_expr, SpecWords, Declr, pointer, declr_name, declr_paren, array, params, abs_pointer, abs_paren, abs_array, abs_params, SomeDeclr, no_declr, some_declr, SomeSize, no_size, some_size, size_value, size_star, Params, no_params, more_params, Init, init_value, init_braced, InitList, init_list, InitItems, no_init_items, more_init_items, Desigs, no_desigs, more_desigs, member_desig, index_desig, identifiers, base_name, range_desig, old_desig, Assocs, no_assocs, more_assocs, Assoc, typed_assoc, default_assoc, no_words, more_words, SpecWord, storage, thread, inline_word, noreturn, qualifier, basic, struct_type, enum_type, typedef_name, attribute, typeof_value, typeof_type, align, auto_word, EnumType, enum_of}
+use Rattle.c_tree.specs.Tree.{Expr, cast, sizeof_type, compound, va_arg, Operator, comma, assign, cond, binary, SomeExpr, no_expr, some_expr, SpecWords, Declr, pointer, declr_name, declr_paren, array, params, abs_pointer, abs_paren, abs_array, abs_params, SomeDeclr, no_declr, some_declr, SomeSize, no_size, some_size, size_value, size_star, Params, no_params, more_params, Init, init_value, init_braced, InitList, init_list, InitItems, no_init_items, more_init_items, Desigs, no_desigs, more_desigs, member_desig, index_desig, identifiers, base_name, range_desig, old_desig, Assocs, no_assocs, more_assocs, Assoc, typed_assoc, default_assoc}
 use Rattle.c_tree.specs.Ends.{last_token}
-use Rattle.c_syntax.specs.declared.parts.Qual.{Qual}
-use Rattle.c_syntax.specs.declared.parts.Qual.TheVariants as quals
-use Rattle.c_tree.specs.Firsts as tape_tokens
 use Rattle.c_tree.specs.Firsts.{first_word}
 use Rattle.c_tape.specs.Tests.{is_name, says_none}
 use Rattle.c_tape.specs.Tape.{tape_in, assocs_tape, assoc_tape, assoc_count, quietly, expr_tape, middle_tape, some_expr_tape, words_tape, specs_with, some_declr_tape, contents, some_contents, some_size_tape, params_tape, params_with, type_name_with, list_tape, rule, rule_of_list, rule_of_items, desigs_tape, desig_tape, form, init, spec, declr, stmt}
@@ -26,46 +23,11 @@ use Rattle.type_rules.specs.Shapes.{shape_of, is_zero, associations_of}
 use Rattle.name_rules.specs.ShapeSteps.Steps.{twice, associations}
 use Rattle.name_rules.specs.ShapeSteps.State.{Operand, named_type, expression, State, operand_put, opened, closed, shape_at, type_at, type_of_operand, first_operand, operands_below}
 use Rattle.resolve_laws.specs.ShapeLaws.Laws as laws
+use Rattle.resolve_laws.proofs.NameLaws.Agreeing.{same_first}
+use Rattle.resolve_laws.proofs.ShapeLaws.Associations as selected
 use Rattle.row_laws.proofs.StartLaws.Found.{Over, behind, run_append}
 
 -- tokens said in two ways
-
--- the token of a word or element as a qualifier is the same by the tape and by the rules of shapes
-same_qual : (q : Qual) → tape_tokens.qual_token q ≡ rule_tokens.qual_token q
-same_qual (quals.Word word) = refl
-same_qual (quals.Element token) = refl
-same_qual (quals.Index token) = refl
-
-same_enum : (e : EnumType) → tape_tokens.enum_token e ≡ rule_tokens.enum_token e
-same_enum (enum_of keyword attrs tag body) = refl
-
--- the token of a word of specifiers is the same by the tape and by the rules of shapes
-same_word : (word : SpecWord) → tape_tokens.word_token word ≡ rule_tokens.word_token word
-same_word (storage word) = refl
-same_word (thread token) = refl
-same_word (inline_word token) = refl
-same_word (noreturn token) = refl
-same_word (qualifier q) = same_qual q
-same_word (basic word) = refl
-same_word (struct_type word attrs tag body) = refl
-same_word (enum_type e) = same_enum e
-same_word (typedef_name name) = refl
-same_word (attribute attr) = refl
-same_word (typeof_value keyword opening e closing) = refl
-same_word (typeof_type word opening ws d closing) = refl
-same_word (align attr) = refl
-same_word (auto_word token) = refl
-
-same_first : (ws : SpecWords) → first_word ws ≡ rule_tokens.first_word ws
-same_first no_words = refl
-same_first (more_words word ws) = same_word word
-
--- dropping one element more than before an element of the stack leaves those behind that
-drop_one_more : {A : Type 0} (n : ℕ) (xs : List A) (y : A) (ys : List A) → drop n xs ≡ y ∷ ys → drop (suc n) xs ≡ ys
-drop_one_more zero [] y ys e = absurd cc
-drop_one_more zero (x ∷ xs) y ys e = cc
-drop_one_more (suc n) [] y ys e = absurd cc
-drop_one_more (suc n) (x ∷ xs) y ys e = drop_one_more n xs y ys e
 
 -- open declarations
 
@@ -79,7 +41,7 @@ module _ (k : Over) where
   -- expressions
 
   abbrev pub operand_of : Expr → Operand
-  operand_of e = expression (shape_of k.spelling k.names e) (is_zero k.spelling k.names e)
+  operand_of e = selected.operand_of k.spelling k.names e
 
   abbrev pub with_expr : Expr → State → State
   with_expr e st = operand_put 0 (operand_of e) st
@@ -121,58 +83,28 @@ module _ (k : Over) where
       ∙ (middle_left op (behind k st (expr_tape false e)) ∙ ap (with_middle op) (expr_left e false st))))
 
   abbrev pub type_at_words : SpecWords → Option CType
-  type_at_words ws = type_named_at k.names.type_names (place k.spelling (rule_tokens.first_word ws))
+  type_at_words ws = selected.type_at_words k.spelling k.names ws
 
   -- associations: of each its type, and above that its expression
 
   abbrev pub assoc_on : Assoc → List Operand → List Operand
-  assoc_on (typed_assoc ws d colon e) operands = operand_of e ∷ named_type (type_at_words ws) ∷ operands
-  assoc_on (default_assoc keyword colon e) operands = operand_of e ∷ named_type None ∷ operands
+  assoc_on x operands = selected.assoc_on k.spelling k.names x operands
 
   abbrev pub assocs_on : Assocs → List Operand → List Operand
-  assocs_on no_assocs operands = operands
-  assocs_on (more_assocs x xs) operands = assocs_on xs (assoc_on x operands)
+  assocs_on xs operands = selected.assocs_on k.spelling k.names xs operands
 
   abbrev pub with_assocs : Assocs → State → State
   with_assocs xs st = record st { operands = assocs_on xs st.operands }
 
-  under_assoc : (x : Assoc) (n : ℕ) (all operands : List Operand) → drop (twice n) all ≡ assoc_on x operands →
-      drop (twice (suc n)) all ≡ operands
-  under_assoc (typed_assoc ws d colon e) n all operands h =
-      let two_more : twice (suc n) ≡ suc (suc (twice n)) = omega arith in
-      ap (λ (m : ℕ). drop m all) two_more
-      ∙ drop_one_more (suc (twice n)) all _ operands (drop_one_more (twice n) all _ _ h)
-  under_assoc (default_assoc keyword colon e) n all operands h =
-      let two_more : twice (suc n) ≡ suc (suc (twice n)) = omega arith in
-      ap (λ (m : ℕ). drop m all) two_more
-      ∙ drop_one_more (suc (twice n)) all _ operands (drop_one_more (twice n) all _ _ h)
-
   -- the control lies under the associations
   pub under_assocs : (xs : Assocs) (operands : List Operand)
       → drop (twice (assoc_count xs)) (assocs_on xs operands) ≡ operands
-  under_assocs no_assocs operands = refl
-  under_assocs (more_assocs x xs) operands =
-      under_assoc x (assoc_count xs) (assocs_on xs (assoc_on x operands)) operands (under_assocs xs (assoc_on x operands))
-
-  assoc_kept : (x : Assoc) (xs : Assocs) (n : ℕ) (operands : List Operand) (st : State) →
-      drop (twice n) st.operands ≡ assoc_on x operands → associations n st ≡ associations_of k.spelling k.names xs →
-      associations (suc n) st ≡ associations_of k.spelling k.names (more_assocs x xs)
-  assoc_kept (typed_assoc ws d colon e) xs n operands st h others =
-      let type : drop (suc (twice n)) st.operands ≡ named_type (type_at_words ws) ∷ operands =
-      drop_one_more (twice n) st.operands _ _ h in
-      rw (h, type, others) refl
-  assoc_kept (default_assoc keyword colon e) xs n operands st h others =
-      let type : drop (suc (twice n)) st.operands ≡ named_type None ∷ operands =
-      drop_one_more (twice n) st.operands _ _ h in
-      rw (h, type, others) refl
+  under_assocs xs operands = selected.under_assocs k.spelling k.names xs operands
 
   -- what a selection is made from
   pub assocs_kept : (xs : Assocs) (st : State) →
       associations (assoc_count xs) (with_assocs xs st) ≡ associations_of k.spelling k.names xs
-  assocs_kept no_assocs st = refl
-  assocs_kept (more_assocs x xs) st =
-      assoc_kept x xs (assoc_count xs) st.operands (with_assocs (more_assocs x xs) st) (under_assocs xs (assoc_on x st.operands))
-      (assocs_kept xs (record st { operands = assoc_on x st.operands }))
+  assocs_kept xs st = selected.assocs_kept k.spelling k.names xs st
 
   -- types that are named: an expression of the type has it
 
@@ -275,11 +207,15 @@ module _ (k : Over) where
       behind k st (type_name_tape ws d) ≡ operand_put 0 (named_type (type_at_words ws)) st
   type_name_left ws d st =
       run_append k (specs_with (words_tape false ws) ++ some_declr_tape d) (declr (declrs.TypeName (first_word ws))) st
-      ∙ (ap (λ (it : State). operand_put 0 (named_type (type_named_at k.names.type_names (place k.spelling (first_word ws)))) (closed it))
+      ∙ (ap (λ (it : State).
+      operand_put 0 (named_type (type_named_at k.names.type_names (place k.spelling (first_word ws)))) (closed it))
       (run_append k (specs_with (words_tape false ws)) (some_declr_tape d) st
-      ∙ ap (λ (it : State). behind k it (some_declr_tape d)) (run_append k (words_tape false ws) (spec specs.SpecsEnd) st))
-      ∙ (ap (operand_put 0 (named_type (type_named_at k.names.type_names (place k.spelling (first_word ws))))) (declared_left ws d st)
-      ∙ ap (λ (token : ℕ). operand_put 0 (named_type (type_named_at k.names.type_names (place k.spelling token))) st) (same_first ws)))
+      ∙ ap (λ (it : State). behind k it (some_declr_tape d))
+      (run_append k (words_tape false ws) (spec specs.SpecsEnd) st))
+      ∙ (ap (operand_put 0 (named_type (type_named_at k.names.type_names (place k.spelling (first_word ws)))))
+      (declared_left ws d st)
+      ∙ ap (λ (token : ℕ). operand_put 0 (named_type (type_named_at k.names.type_names (place k.spelling token))) st)
+      (same_first ws)))
 
   assoc_left : (x : Assoc) (st : State) → behind k st (assoc_tape x) ≡ record st { operands = assoc_on x st.operands }
   assoc_left (typed_assoc ws d colon e) st =
@@ -302,7 +238,8 @@ module _ (k : Over) where
   selection_left e xs st =
       run_append k (stmt stmts.Quiet ++ expr_tape false e ++ form forms.Control) (assocs_tape xs) st
       ∙ (assocs_left xs (behind k st (stmt stmts.Quiet ++ expr_tape false e ++ form forms.Control))
-      ∙ ap (with_assocs xs) (run_append k (stmt stmts.Quiet ++ expr_tape false e) (form forms.Control) st ∙ expr_left e false st))
+      ∙ ap (with_assocs xs)
+      (run_append k (stmt stmts.Quiet ++ expr_tape false e) (form forms.Control) st ∙ expr_left e false st))
 
   -- the operands of a choice
   pub choice_left : (e a b : Expr) (st : State) →
@@ -373,7 +310,8 @@ module _ (k : Over) where
         ∙ (params_with_left false ps (behind k (declaring None declared st) (some_contents d))
         ∙ some_contents_left d declared st)
     contents_left (identifiers d opening names closing) own declared st =
-        run_append k (contents own d ++ declr (declrs.ParamsBegin false)) (declr declrs.ParamsEnd) (declaring None declared st)
+        run_append k (contents own d ++ declr (declrs.ParamsBegin false)) (declr declrs.ParamsEnd)
+        (declaring None declared st)
         ∙ (run_append k (contents own d) (declr (declrs.ParamsBegin false)) (declaring None declared st)
         ∙ contents_left d own declared st)
     contents_left (base_name token) own declared st = refl

@@ -31,9 +31,10 @@ use Rattle.row_rules.specs.RowSteps.Rounds.{other_param, with_round, is_quiet, p
 use Rattle.row_rules.specs.RowSteps.Starting.{naming_has}
 use Rattle.type_rules.specs.Tokens.{declared_name, is_bare}
 use Rattle.name_rules.specs.ShapeSteps.State.{State}
+use Rattle.resolve_laws.proofs.NameLaws.Agreeing.{same_name}
 use Rattle.constraint_rules.specs.Starts.{assocs_starts, assoc_starts, old_declrs_starts, old_declaration_starts, old_declarations_starts, old_declr_starts, unnamed_start, unnamed_starts, ends_in_value, expr_starts, some_expr_starts, exprs_starts, words_starts, word_starts, some_body_starts, struct_items_starts, struct_item_starts, members_starts, mem_declrs_starts, mem_declr_starts, some_value_starts, enum_starts, enumerators_starts, declr_starts, some_declr_starts, some_size_starts, array_size_starts, params_starts, init_starts, init_list_starts, init_items_starts, desigs_starts, desig_starts, some_init_starts, init_declrs_starts, declaration_starts, decl_starts, block_items_starts, block_item_starts, stmt_starts, some_else_starts, for_start_starts}
 use Rattle.row_laws.proofs.StartLaws.Found.{around_tape, Over, at, Finds, nothing, join, same, followed, without, one, idle, silent, of_three, of_four}
-use Rattle.row_laws.proofs.StartLaws.Idle.{none_said, pieces_plain, tag_none, arguments_none, list_none, same_bare, same_end}
+use Rattle.row_laws.proofs.StartLaws.Idle.{none_said, pieces_plain, tag_none, arguments_none, list_none, same_end}
 use Rattle.row_laws.proofs.StartLaws.States.{declaring, token_of, contents_left}
 use Rattle.row_laws.proofs.StartLaws.Parts.{control_finds, compat_finds, prefix_finds, choose_finds, generic_finds, in_list, identifiers_find, own_plain, own_joined, own_listed, listed, scoped, quietly_finds, sizeof_finds, offset_finds, body_finds, type_name_finds, middle_starts, operation_finds, cast_finds, va_arg_finds, literal_finds, FindsParams, no_param, one_param, params_grouped, params_with_find, own_of, OwnFinds}
 
@@ -59,7 +60,8 @@ quiet_steps all a (more_desigs (old_desig name colon) ds) w = absurd w.0
 plain_starts : (a : Around) (ds : InitDeclrs) → old_declrs_starts a with_skeleton ds ≡ init_declrs_starts a ds
 plain_starts a no_init_declrs = refl
 plain_starts a (more_init_declrs attrs d asm_label attrs2 init ds) =
-    ap (λ (starts : List Start). declr_starts a with_skeleton without_skeleton d ++ (some_init_starts a init ++ starts)) (plain_starts a ds)
+    ap (λ (starts : List Start). declr_starts a with_skeleton without_skeleton d ++ (some_init_starts a init ++ starts))
+    (plain_starts a ds)
 
 -- declarators whose type is that of an initialiser are one such declarator, as in a well-formed declaration
 auto_is : (ws : SpecWords) (ds : InitDeclrs) → are_auto ws ds ≡ true → IsAutoWhere (has_auto ws) ws ds
@@ -76,7 +78,8 @@ auto_is ws ds is where_auto =
 compat_groups : (xs ys zs us vs : List Start) → ((xs ++ ys) ++ (zs ++ us)) ++ vs ≡ xs ++ (ys ++ (zs ++ (us ++ vs)))
 compat_groups xs ys zs us vs =
     append_assoc (xs ++ ys) (zs ++ us) vs
-    ∙ (append_assoc xs ys ((zs ++ us) ++ vs) ∙ ap (λ (starts : List Start). xs ++ (ys ++ starts)) (append_assoc zs us vs))
+    ∙ (append_assoc xs ys ((zs ++ us) ++ vs)
+    ∙ ap (λ (starts : List Start). xs ++ (ys ++ starts)) (append_assoc zs us vs))
 
 -- in another grouping of tapes
 grouped : {k : Over} {h : Having} {f : Around → List Start} (xs ys zs : List Op) → Finds k h (xs ++ (ys ++ zs)) f →
@@ -155,18 +158,23 @@ module _ (k : Over) where
 
   empty_list : (h : Having)
       → Finds k h (ops.Declr (declrs.ParamsBegin false) ∷ (ops.Declr declrs.ParamsEnd ∷ [])) (λ a. [])
-  empty_list h = around_tape {within = without_skeleton} {tape = []} (ops.Declr (declrs.ParamsBegin false)) (ops.Declr declrs.ParamsEnd)
-      (λ r. with_round other_param (is_quiet r) r) (λ a. a) (λ st r. refl) (λ st r. refl) (λ r. refl) (λ r. refl) (λ st r. refl)
+  empty_list h =
+      around_tape {within = without_skeleton} {tape = []} (ops.Declr (declrs.ParamsBegin false))
+      (ops.Declr declrs.ParamsEnd)
+      (λ r. with_round other_param (is_quiet r) r) (λ a. a) (λ st r. refl) (λ st r. refl) (λ r. refl) (λ r. refl)
+      (λ st r. refl)
       (λ ds r. refl) nothing
 
   -- an initialiser that gives its type to a name
 
   auto_init_finds : (e : Expr) (h : Having) → Finds k h (tape_in false false e) (λ a. expr_starts a e)
       → (equal semi : ℕ) →
-      Finds k h (auto_init_tape semi (some_init equal (init_value e))) (λ a. some_init_starts a (some_init equal (init_value e)))
+      Finds k h (auto_init_tape semi (some_init equal (init_value e)))
+      (λ a. some_init_starts a (some_init equal (init_value e)))
   auto_init_finds e h p equal semi =
       without (ops.Init (inits.Value (first_token e) (last_token e)))
-      (without (ops.Declr (declrs.AutoEnd semi)) (join (idle (ops.Declr declrs.AutoBegin) (λ st r. refl) (λ ds r. refl)) p)
+      (without (ops.Declr (declrs.AutoEnd semi))
+      (join (idle (ops.Declr declrs.AutoBegin) (λ st r. refl) (λ ds r. refl)) p)
       (λ st r. refl) (λ ds r. refl)) (λ st r. refl) (λ ds r. refl)
 
   -- statements
@@ -184,12 +192,13 @@ module _ (k : Over) (all : List Lexeme) where
         operation_finds k e op token e2 called aims (expr_finds e w.0 h false false) (middle_finds op w.3 h)
         (expr_finds e2 w.1 h false false)
     expr_finds (cast opening ws d closing e) w h called aims =
-        cast_finds k (λ a. words_starts a ws) (λ a. some_declr_starts a with_skeleton d) (λ a. expr_starts a e)
-        opening ws d e (type_name_finds (first_word ws) (type_words_find ws w.1 h) (abstract_finds d w.2 h with_skeleton))
-        (expr_finds e w.3 h false false)
+        cast_finds k (λ a. words_starts a ws) (λ a. some_declr_starts a with_skeleton d)
+        (λ a. expr_starts a e) opening ws d e (type_name_finds (first_word ws) (type_words_find ws w.1 h)
+        (abstract_finds d w.2 h with_skeleton)) (expr_finds e w.3 h false false)
     expr_finds (prefix token p e) w h called aims =
         prefix_finds k token p e aims (expr_finds e w.0 h false true) (expr_finds e w.0 h false false)
-    expr_finds (sizeof_value word e) w h called aims = sizeof_finds word.token (expr_finds e w.0 with_skeleton false false)
+    expr_finds (sizeof_value word e) w h called aims =
+        sizeof_finds word.token (expr_finds e w.0 with_skeleton false false)
     expr_finds (sizeof_type word opening ws d closing) w h called aims =
         of_three (λ a. words_starts (quiet a) ws) (λ a. some_declr_starts (quiet a) with_skeleton d)
         (λ a. fresh a word.token (base []))
@@ -205,17 +214,20 @@ module _ (k : Over) (all : List Lexeme) where
         (silent (join (expr_finds e w.0 h true false) (exprs_find es w.1 h)) (arguments_none k es h)) (λ st r. refl)
         (λ ds r. refl)
     expr_finds (dot e token name) w h called aims =
-        without (ops.Expr (exprs.Dot token name.token name.name)) (expr_finds e w.0 h false aims) (λ st r. refl) (λ ds r. refl)
+        without (ops.Expr (exprs.Dot token name.token name.name)) (expr_finds e w.0 h false aims) (λ st r. refl)
+        (λ ds r. refl)
     expr_finds (arrow e token name) w h called aims =
         without (ops.Expr (exprs.Dot token name.token name.name))
-        (without (ops.Expr (exprs.Arrow token (first_token e) name.token aims)) (expr_finds e w.0 h false false) (λ st r. refl)
+        (without (ops.Expr (exprs.Arrow token (first_token e) name.token aims)) (expr_finds e w.0 h false false)
+        (λ st r. refl)
         (λ ds r. refl)) (λ st r. refl) (λ ds r. refl)
     expr_finds (post e token p) w h called aims =
-        without (ops.Expr (exprs.Post p token (first_token e))) (expr_finds e w.0 h false false) (λ st r. refl) (λ ds r. refl)
+        without (ops.Expr (exprs.Post p token (first_token e))) (expr_finds e w.0 h false false) (λ st r. refl)
+        (λ ds r. refl)
     expr_finds (compound opening ws d closing list) w h called aims =
-        literal_finds k (λ a. words_starts a ws) (λ a. some_declr_starts a with_skeleton d) (λ a. init_list_starts a list)
-        opening ws d list (type_name_finds (first_word ws) (type_words_find ws w.1 h) (abstract_finds d w.2 h with_skeleton))
-        (list_finds list w.3 h)
+        literal_finds k (λ a. words_starts a ws) (λ a. some_declr_starts a with_skeleton d)
+        (λ a. init_list_starts a list) opening ws d list (type_name_finds (first_word ws) (type_words_find ws w.1 h)
+        (abstract_finds d w.2 h with_skeleton)) (list_finds list w.3 h)
     expr_finds (name_use token name) w h called aims =
         one (ops.Expr (exprs.Name called token name))
         (λ a. use_start a token (use_at a.names.uses (place a.spelling token))) (λ st r e. refl) (λ ds r. refl)
@@ -251,7 +263,8 @@ module _ (k : Over) (all : List Lexeme) where
         (λ a. desigs_starts a steps) (λ a. fresh a keyword (base []))
         (same (offset_finds keyword
         (join (without (ops.Form (forms.OffsetMember name.token name.name))
-        (type_name_finds (first_word ws) (type_words_find ws w.1 with_skeleton) (abstract_finds d w.2 with_skeleton with_skeleton))
+        (type_name_finds (first_word ws) (type_words_find ws w.1 with_skeleton)
+        (abstract_finds d w.2 with_skeleton with_skeleton))
         (λ st r. refl) (λ ds r. refl)) (steps_find steps w.3)))
         (λ r. ap (λ (starts : List Start).
         ((words_starts (quiet (at k r)) ws ++ some_declr_starts (quiet (at k r)) with_skeleton d) ++ starts)
@@ -259,15 +272,20 @@ module _ (k : Over) (all : List Lexeme) where
     expr_finds (complex_part keyword e) w h called aims =
         without (ops.Expr (exprs.Ext keyword)) (expr_finds e w.0 h false aims) (λ st r. refl) (λ ds r. refl)
     expr_finds (label_use token name) w h called aims =
-        one (ops.Expr (exprs.Label token)) (λ a. fresh a token (pointer_type [] (void []))) (λ st r e. refl) (λ ds r. refl)
+        one (ops.Expr (exprs.Label token)) (λ a. fresh a token (pointer_type [] (void []))) (λ st r e. refl)
+        (λ ds r. refl)
     expr_finds (compat keyword opening ws d separator ws2 d2 closing) w h called aims =
         same (compat_finds keyword (join
-        (type_name_finds (first_word ws) (type_words_find ws w.1 with_skeleton) (abstract_finds d w.2 with_skeleton with_skeleton))
-        (type_name_finds (first_word ws2) (type_words_find ws2 w.4 with_skeleton) (abstract_finds d2 w.5 with_skeleton with_skeleton))))
+        (type_name_finds (first_word ws) (type_words_find ws w.1 with_skeleton)
+        (abstract_finds d w.2 with_skeleton with_skeleton))
+        (type_name_finds (first_word ws2) (type_words_find ws2 w.4 with_skeleton)
+        (abstract_finds d2 w.5 with_skeleton with_skeleton))))
         (λ r. compat_groups (words_starts (quiet (at k r)) ws) (some_declr_starts (quiet (at k r)) with_skeleton d)
-        (words_starts (quiet (at k r)) ws2) (some_declr_starts (quiet (at k r)) with_skeleton d2) (fresh (at k r) keyword (base [])))
+        (words_starts (quiet (at k r)) ws2) (some_declr_starts (quiet (at k r)) with_skeleton d2)
+        (fresh (at k r) keyword (base [])))
     expr_finds (choose keyword opening e separator e2 separator2 e3 closing) w h called aims =
-        choose_finds k keyword e e2 e3 (quietly_finds (expr_finds e w.0 with_skeleton false false)) (expr_finds e2 w.1 h false false)
+        choose_finds k keyword e e2 e3 (quietly_finds (expr_finds e w.0 with_skeleton false false))
+        (expr_finds e2 w.1 h false false)
         (expr_finds e3 w.2 h false false)
     expr_finds (generic keyword opening e xs closing) w h called aims =
         generic_finds k keyword e xs (control_finds (expr_finds e w.0 with_skeleton false false)) (assocs_find xs w.3 h)
@@ -308,7 +326,8 @@ module _ (k : Over) (all : List Lexeme) where
     steps_find : (ds : Desigs) → AreSteps all ds → Finds k with_skeleton (steps_tape ds) (λ a. steps_starts a ds)
     steps_find no_desigs w = nothing
     steps_find (more_desigs (member_desig before name) ds) w =
-        join (idle (ops.Form (forms.OffsetMember name.token name.name)) (λ st r. refl) (λ ds r. refl)) (steps_find ds w.1)
+        join (idle (ops.Form (forms.OffsetMember name.token name.name)) (λ st r. refl) (λ ds r. refl))
+        (steps_find ds w.1)
     steps_find (more_desigs (index_desig opening e closing) ds) w =
         join (without (ops.Form (forms.OffsetIndex opening)) (expr_finds e w.0 with_skeleton false false) (λ st r. refl)
         (λ ds r. refl)) (steps_find ds w.1)
@@ -341,7 +360,8 @@ module _ (k : Over) (all : List Lexeme) where
         Finds k h (contents false d) (λ a. declr_starts a g without_skeleton d)
     bare_finds (abs_pointer star words d) w is h g = some_bare_finds d w.1 h g
     bare_finds (abs_paren opening attrs d closing) w is h g = bare_finds d w.1 w.2 h g
-    bare_finds (abs_array d opening words size closing) w is h g = join (direct_bare_finds d w.0 h g) (some_size_finds size w.2 h)
+    bare_finds (abs_array d opening words size closing) w is h g =
+        join (direct_bare_finds d w.0 h g) (some_size_finds size w.2 h)
     bare_finds (abs_params d opening ps dots closing) w is h g =
         join (direct_bare_finds d w.0 h g) (params_with_find ps (params_find ps w.1 without_skeleton))
     bare_finds d w is h g = absurd cc
@@ -357,7 +377,8 @@ module _ (k : Over) (all : List Lexeme) where
         Finds k h (word_tape alone word) (λ a. word_starts a word)
     word_finds (storage word) w alone h = idle (ops.Spec (specs.Storage word.keyword)) (λ st r. refl) (λ ds r. refl)
     word_finds (thread token) w alone h = nothing
-    word_finds (inline_word token) w alone h = idle (ops.Spec (specs.Storage keywords.Inline)) (λ st r. refl) (λ ds r. refl)
+    word_finds (inline_word token) w alone h =
+        idle (ops.Spec (specs.Storage keywords.Inline)) (λ st r. refl) (λ ds r. refl)
     word_finds (noreturn token) w alone h = nothing
     word_finds (qualifier q) w alone h = idle (ops.Spec (specs.Word (qual_token q))) (λ st r. refl) (λ ds r. refl)
     word_finds (basic word) w alone h = void_finds k (is_void word.keyword) h
@@ -369,7 +390,8 @@ module _ (k : Over) (all : List Lexeme) where
     word_finds (attribute attr) w alone h = nothing
     word_finds (typeof_value keyword opening e closing) w alone h =
         quietly_finds (without (ops.Spec (specs.TypeofEnd closing))
-        (join (idle (ops.Spec specs.PartBegin) (λ st r. refl) (λ ds r. refl)) (expr_finds e w with_skeleton false false))
+        (join (idle (ops.Spec specs.PartBegin) (λ st r. refl) (λ ds r. refl))
+        (expr_finds e w with_skeleton false false))
         (λ st r. refl) (λ ds r. refl))
     word_finds (typeof_type word opening ws d closing) w alone h =
         without (ops.Spec specs.TypeEnd)
@@ -432,7 +454,8 @@ module _ (k : Over) (all : List Lexeme) where
         Finds k with_skeleton (enumerators_tape es) (λ a. enumerators_starts a es)
     enumerators_find no_enumerators w = nothing
     enumerators_find (more_enumerators name attrs value es) w =
-        join (without (ops.Spec (specs.Enumerator name.token name.name)) (some_value_finds value w.1 with_skeleton) (λ st r. refl)
+        join (without (ops.Spec (specs.Enumerator name.token name.name)) (some_value_finds value w.1 with_skeleton)
+        (λ st r. refl)
         (λ ds r. refl)) (enumerators_find es w.2)
 
     -- declarators
@@ -449,7 +472,8 @@ module _ (k : Over) (all : List Lexeme) where
         (sym (none_have (is_bare d))))
     contents_find (abs_pointer star words d) w h = some_bare_finds d w.1 h h
     contents_find (abs_paren opening attrs d closing) w h = contents_find d w.1 h
-    contents_find (abs_array d opening words size closing) w h = join (direct_bare_finds d w.0 h h) (some_size_finds size w.2 h)
+    contents_find (abs_array d opening words size closing) w h =
+        join (direct_bare_finds d w.0 h h) (some_size_finds size w.2 h)
     contents_find (abs_params d opening ps dots closing) w h =
         join (direct_bare_finds d w.0 h h) (params_with_find ps (params_find ps w.1 without_skeleton))
     contents_find (identifiers d opening names closing) w h =
@@ -476,8 +500,9 @@ module _ (k : Over) (all : List Lexeme) where
         (params_find ps w.3 (having_where (is_name d) (own_of k d)))) in
         record {
           finds = λ n st r e. it.finds n st r e
-              ∙ ap (λ (b : Bool). declr_starts (at k r) h (own_of k d) d ++ params_starts (at k r) (having_where b (own_of k d)) ps)
-              (same_bare d);
+              ∙ ap (λ (b : Bool).
+              declr_starts (at k r) h (own_of k d) d ++ params_starts (at k r) (having_where b (own_of k d)) ps)
+              (same_name d);
           stays = it.stays;
         }
     own_contents_find (abs_pointer star words d) w h = own_plain (some_bare_finds d w.1 h h)
@@ -488,12 +513,14 @@ module _ (k : Over) (all : List Lexeme) where
     own_contents_find (abs_params d opening ps dots closing) w h =
         own_plain (join (direct_bare_finds d w.0 h h) (params_with_find ps (params_find ps w.1 without_skeleton)))
     own_contents_find (identifiers d opening names closing) w h =
-        let it : OwnFinds k h (contents true d ++ (ops.Declr (declrs.ParamsBegin false) ∷ (ops.Declr declrs.ParamsEnd ∷ [])))
+        let it : OwnFinds k h
+        (contents true d ++ (ops.Declr (declrs.ParamsBegin false) ∷ (ops.Declr declrs.ParamsEnd ∷ [])))
         (λ a. declr_starts a h (own_of k d) d ++ []) = own_joined (own_contents_find d w.0 h) (empty_list k h) in
         own_grouped (record {
           finds = λ n st r e. it.finds n st r e ∙ append-nil (declr_starts (at k r) h (own_of k d) d);
           stays = it.stays;
-        }) (sym (append_assoc (contents true d) (ops.Declr (declrs.ParamsBegin false) ∷ []) (ops.Declr declrs.ParamsEnd ∷ [])))
+        }) (sym
+        (append_assoc (contents true d) (ops.Declr (declrs.ParamsBegin false) ∷ []) (ops.Declr declrs.ParamsEnd ∷ [])))
     own_contents_find (base_name token) w h = own_plain nothing
 
     some_declr_finds : (d : SomeDeclr) → IsSomeDeclr all d → (h : Having) →
@@ -545,7 +572,8 @@ module _ (k : Over) (all : List Lexeme) where
     index_finds (member_desig before name) w h = nothing
     index_finds (index_desig opening e closing) w h = quietly_finds (expr_finds e w.0 with_skeleton false false)
     index_finds (range_desig opening e dots e2 closing) w h =
-        join (quietly_finds (expr_finds e w.0 with_skeleton false false)) (quietly_finds (expr_finds e2 w.2 with_skeleton false false))
+        join (quietly_finds (expr_finds e w.0 with_skeleton false false))
+        (quietly_finds (expr_finds e2 w.2 with_skeleton false false))
     index_finds (old_desig name colon) w h = nothing
 
     some_init_finds : (i : SomeInit) → IsSomeInit all i → (h : Having)
@@ -575,10 +603,13 @@ module _ (k : Over) (all : List Lexeme) where
     auto_finds : (semi : ℕ) (ws : SpecWords) (ds : InitDeclrs) → IsAutoDeclr ws ds → AreInitDeclrs all ds
         → (h : Having) →
         Finds k h (auto_declrs_tape semi ds) (λ a. old_declrs_starts a h ds)
-    auto_finds semi ws (more_init_declrs attrs (declr_name token name) None attrs2 (some_init equal (init_value e)) no_init_declrs) is w h =
+    auto_finds semi ws (more_init_declrs attrs (declr_name token name) None attrs2
+        (some_init equal (init_value e)) no_init_declrs) is w h =
         of_three (λ a. had_name h a token) (λ a. some_init_starts a (some_init equal (init_value e))) (λ a. [])
-        (join (join (name_finds k token name h) (auto_init_finds k e h (expr_finds e w.5.0 h false false) equal semi)) nothing)
-    auto_finds semi ws (more_init_declrs attrs (base_name token) None attrs2 (some_init equal (init_value e)) no_init_declrs) is w h =
+        (join (join (name_finds k token name h)
+        (auto_init_finds k e h (expr_finds e w.5.0 h false false) equal semi)) nothing)
+    auto_finds semi ws
+        (more_init_declrs attrs (base_name token) None attrs2 (some_init equal (init_value e)) no_init_declrs) is w h =
         of_three (λ a. []) (λ a. some_init_starts a (some_init equal (init_value e))) (λ a. [])
         (join (join nothing (auto_init_finds k e h (expr_finds e w.5.0 h false false) equal semi)) nothing)
     auto_finds semi ws _ is w h = absurd is
@@ -633,14 +664,16 @@ module _ (k : Over) (all : List Lexeme) where
     stmt_finds (for_stmt keyword opening start e semi e2 closing t) w kept =
         scoped (of_four (λ a. for_start_starts a start) (λ a. some_expr_starts a e) (λ a. some_expr_starts a e2)
         (λ a. stmt_starts a t)
-        (join (join (join (for_start_finds start w.0) (dropped_finds e w.1 with_skeleton)) (dropped_finds e2 w.2 with_skeleton))
+        (join (join (join (for_start_finds start w.0) (dropped_finds e w.1 with_skeleton))
+        (dropped_finds e2 w.2 with_skeleton))
         (scoped (stmt_finds t w.3 false))))
     stmt_finds (goto_stmt keyword name semi) w kept = nothing
     stmt_finds (continue_stmt keyword semi) w kept = nothing
     stmt_finds (break_stmt keyword semi) w kept = nothing
     stmt_finds (return_stmt keyword no_expr semi) w kept = nothing
     stmt_finds (return_stmt keyword (some_expr e) semi) w kept =
-        without (ops.Stmt (stmts.Return keyword semi)) (expr_finds e w with_skeleton false false) (λ st r. refl) (λ ds r. refl)
+        without (ops.Stmt (stmts.Return keyword semi)) (expr_finds e w with_skeleton false false) (λ st r. refl)
+        (λ ds r. refl)
     stmt_finds (asm_stmt keyword words group semi) w kept = nothing
     stmt_finds (case_range keyword e dots e2 colon t) w kept =
         of_three (λ a. expr_starts (quiet a) e) (λ a. expr_starts (quiet a) e2) (λ a. stmt_starts a t)
@@ -686,12 +719,14 @@ module _ (k : Over) (all : List Lexeme) where
 
   -- a declarator with such a list
   pub old_contents_find : (ds : List Declaration) → All (IsDeclaration all) ds → (d : Declr) → IsDeclr all d →
-      lists_identifiers d ≡ true → OwnFinds k with_skeleton (old_contents ds d) (λ a. old_declr_starts a (own_of k d) ds d)
+      lists_identifiers d ≡ true
+      → OwnFinds k with_skeleton (old_contents ds d) (λ a. old_declr_starts a (own_of k d) ds d)
   old_contents_find ds ws (identifiers d opening names closing) w is =
       own_grouped (own_listed true (token_of (declared_name d)) (own_plain (contents_find d w.0 with_skeleton))
       (contents_left k d false) (λ n st. own_have k d true n st)
       (identifiers_find names (in_list (old_declarations_find ds ws (own_of k d)))))
-      (listed_groups (contents false d) (identifiers_tape names) (old_declarations_tape ds) (ops.Declr (declrs.ParamsBegin true))
+      (listed_groups (contents false d) (identifiers_tape names) (old_declarations_tape ds)
+      (ops.Declr (declrs.ParamsBegin true))
       (ops.Declr declrs.ParamsEnd))
   old_contents_find ds ws (pointer star words d) w is =
       let it = old_contents_find ds ws d w.1 is in record { finds = it.finds; stays = it.stays }

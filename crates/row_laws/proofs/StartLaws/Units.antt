@@ -89,7 +89,8 @@ module _ (access : Bool) (k : Over) (all : List Lexeme) where
   unfolding opened_tape
   opened_finds ws d named f w p st =
       found_append k (head_tape ws d named) (stmt stmts.FunctionBody) st (file access)
-      ∙ (append-nil (found k st (file access) (head_tape ws d named)) ∙ (head_finds ws d named f w p).finds st (file access) refl)
+      ∙ (append-nil (found k st (file access) (head_tape ws d named))
+      ∙ (head_finds ws d named f w p).finds st (file access) refl)
 
   opened_inside : (ws : SpecWords) (d : Declr) (named : List Op) (f : Around → List Start) → AreSpecWords all ws →
       OwnFinds k with_skeleton named f → LeavesName d named → (st : State) →
@@ -105,7 +106,8 @@ module _ (access : Bool) (k : Over) (all : List Lexeme) where
   filled_tape ws d named items = opened_tape ws d named ++ block_items_tape false items
 
   filled_finds : (ws : SpecWords) (d : Declr) (named : List Op) (f : Around → List Start) (items : BlockItems) →
-      AreSpecWords all ws → OwnFinds k with_skeleton named f → LeavesName d named → AreBlockItems all items → (st : State) →
+      AreSpecWords all ws → OwnFinds k with_skeleton named f → LeavesName d named → AreBlockItems all items
+      → (st : State) →
       found k st (file access) (filled_tape ws d named items) ≡
       (words_starts (at k (file access)) ws ++ f (at k (file access)))
       ++ block_items_starts (at k (body_of (token_of (declared_name d)))) items
@@ -113,7 +115,8 @@ module _ (access : Bool) (k : Over) (all : List Lexeme) where
   filled_finds ws d named f items w p left v st =
       found_append k (opened_tape ws d named) (block_items_tape false items) st (file access)
       ∙ (ap (λ (r : Rounds). found k st (file access) (opened_tape ws d named)
-      ++ found k (behind k st (opened_tape ws d named)) r (block_items_tape false items)) (opened_inside ws d named f w p left st)
+      ++ found k (behind k st (opened_tape ws d named)) r (block_items_tape false items))
+      (opened_inside ws d named f w p left st)
       ∙ (ap (λ (starts : List Start). starts
       ++ found k (behind k st (opened_tape ws d named)) (body_of (token_of (declared_name d)))
       (block_items_tape false items)) (opened_finds ws d named f w p st)
@@ -123,7 +126,8 @@ module _ (access : Bool) (k : Over) (all : List Lexeme) where
       (body_of (token_of (declared_name d))) refl)))
 
   filled_inside : (ws : SpecWords) (d : Declr) (named : List Op) (f : Around → List Start) (items : BlockItems) →
-      AreSpecWords all ws → OwnFinds k with_skeleton named f → LeavesName d named → AreBlockItems all items → (st : State) →
+      AreSpecWords all ws → OwnFinds k with_skeleton named f → LeavesName d named → AreBlockItems all items
+      → (st : State) →
       rounds_behind k st (file access) (filled_tape ws d named items) ≡ body_of (token_of (declared_name d))
   unfolding filled_tape
   filled_inside ws d named f items w p left v st =
@@ -156,12 +160,17 @@ module _ (access : Bool) (k : Over) (all : List Lexeme) where
   -- items
 
   -- a function, whose own parameters have what the function at its name is
-  function_finds : (ws : SpecWords) (d : Declr) (named : List Op) (f : Around → Having → List Start) (items : BlockItems) →
-      AreSpecWords all ws → OwnFinds k with_skeleton named (λ a. f a (own_of k d)) → LeavesName d named → AreBlockItems all items →
-      FindsAtFile (specs_with (words_tape false ws) ++ named ++ pieces d ++ declr declrs.Declare ++ stmt stmts.FunctionBody
+  function_finds : (ws : SpecWords) (d : Declr) (named : List Op) (f : Around → Having → List Start)
+      (items : BlockItems) →
+      AreSpecWords all ws → OwnFinds k with_skeleton named (λ a. f a (own_of k d)) → LeavesName d named
+      → AreBlockItems all items →
+      FindsAtFile
+      (specs_with (words_tape false ws) ++ named ++ pieces d ++ declr declrs.Declare ++ stmt stmts.FunctionBody
       ++ block_items_tape false items ++ stmt stmts.FunctionEnd ++ declr declrs.DeclarationEnd)
-      (words_starts (at k (file access)) ws ++ (f (at k (file access)) (of_function (declared_function k.spelling k.names (declared_name d)))
-      ++ block_items_starts (record (at k (file access)) { enclosing = declared_function k.spelling k.names (declared_name d) }) items))
+      (words_starts (at k (file access)) ws
+      ++ (f (at k (file access)) (of_function (declared_function k.spelling k.names (declared_name d)))
+      ++ block_items_starts
+      (record (at k (file access)) { enclosing = declared_function k.spelling k.names (declared_name d) }) items))
   unfolding filled_tape opened_tape head_tape
   function_finds ws d named f items w p left v =
       said (ended (filled_tape ws d named items) (filled_finds ws d named (λ a. f a (own_of k d)) items w p left v)
@@ -200,15 +209,16 @@ module _ (access : Bool) (k : Over) (all : List Lexeme) where
       found_append k (item_tape item) (tape_of items) st (file access)
       ∙ (ap (λ (r : Rounds). found k st (file access) (item_tape item)
       ++ found k (behind k st (item_tape item)) r (tape_of items)) (it.stays st)
-      ∙ (ap (λ (starts : List Start). starts ++ found k (behind k st (item_tape item)) (file access) (tape_of items)) (it.finds st)
+      ∙ (ap (λ (starts : List Start). starts
+      ++ found k (behind k st (item_tape item)) (file access) (tape_of items)) (it.finds st)
       ∙ ap (λ (starts : List Start). item_starts access k.spelling k.names item ++ starts)
       (items_find items (All-tail (IsItem all) item items w) (behind k st (item_tape item)))))
 
 -- along the tape of a unit the skeletons begin that begin on its tree, in their order
 pub starts_are_found : ShapesAreLeft → AddressedAreLeft → OldNamesAreLeft → StartsAreFound
 starts_are_found shaped addressed named access u s all items unit =
-    items_find access (record { spelling = u; names = s; shaped = shaped; addressed = addressed; named = named }) all items unit.parts
-    no_operands
+    items_find access (record { spelling = u; names = s; shaped = shaped; addressed = addressed; named = named }) all
+    items unit.parts no_operands
 
 -- programs
 
@@ -218,7 +228,8 @@ sources_find : StartsAreFound → (access : Bool) (s : Names) (sources : List So
 sources_find law access s [] h = refl
 sources_find law access s (it ∷ sources) h =
     let sound : IsSound it = All-head IsSound it sources h in
-    ap (λ (starts : List Start). starts ++ found_on access s sources) (law access it.spelling s sound.0 it.items sound.1)
+    ap (λ (starts : List Start). starts ++ found_on access s sources)
+    (law access it.spelling s sound.0 it.items sound.1)
     ∙ ap (λ (starts : List Start). items_starts access it.spelling s it.items ++ starts)
     (sources_find law access s sources (All-tail IsSound it sources h))
 

@@ -4,15 +4,12 @@ use Rattle.tape_ops.specs.declared.op.Op.{Op}
 use Rattle.tape_ops.specs.declared.op.Op.TheVariants as ops
 use Rattle.tape_ops.specs.declared.expression.ExprOp.{ExprOp}
 use Rattle.tape_ops.specs.declared.expression.ExprOp.TheVariants as exprs
-use Rattle.tape_ops.specs.declared.form.FormOp.{FormOp}
-use Rattle.tape_ops.specs.declared.form.FormOp.TheVariants as forms
-use Rattle.tape_ops.specs.declared.initialiser.InitOp.{InitOp}
-use Rattle.tape_ops.specs.declared.initialiser.InitOp.TheVariants as inits
 use Rattle.tape_ops.specs.declared.specifier.SpecOp.{SpecOp}
 use Rattle.tape_ops.specs.declared.specifier.SpecOp.TheVariants as specs
 use Rattle.tape_ops.specs.declared.declarator.DeclrOp.{DeclrOp}
 use Rattle.tape_ops.specs.declared.declarator.DeclrOp.TheVariants as declrs
 use Rattle.name_rules.specs.Spellings.{Spelling, Place, place}
+use Rattle.expr_types.specs.Keys.{form_key, init_key}
 use Rattle.name_rules.specs.Scopes.{Names, declared_at}
 
 -- the token of an op of expressions at which a skeleton may begin
@@ -36,38 +33,8 @@ expr_key (exprs.Arrow token first last aims) = None
 expr_key (exprs.Dot token member name) = None
 expr_key (exprs.Label token) = Some token
 
--- the token of an op of the forms with type names at which a skeleton may begin
-abbrev pub form_key : FormOp → Option ℕ
-form_key (forms.Cast token last) = Some token
-form_key (forms.Sizeof token) = Some token
-form_key (forms.StmtExpr has_value token) = Some token
-form_key (forms.VaArg token last) = Some token
-form_key (forms.VaStart token last) = Some token
-form_key (forms.VaCopy token last) = Some token
-form_key (forms.OffsetMember token name) = None
-form_key (forms.OffsetIndex token) = None
-form_key (forms.Offset token) = Some token
-form_key (forms.Compat token) = Some token
-form_key forms.Control = None
-form_key forms.NoType = None
-form_key (forms.Choose token) = Some token
-form_key (forms.Generic token count) = Some token
-
--- the token of an op of initialisers at which a skeleton may begin: of a compound literal alone
-abbrev pub init_key : InitOp → Option ℕ
-init_key (inits.Value first last) = None
-init_key inits.Begin = None
-init_key inits.Rule = None
-init_key (inits.Literal token) = Some token
-init_key inits.ListBegin = None
-init_key (inits.Member token name) = None
-init_key (inits.Index token) = None
-init_key (inits.Leaf first last) = None
-init_key inits.ListEnd = None
-init_key inits.End = None
-init_key inits.LiteralEnd = None
-
--- the token of an op that ends an expression, at which a skeleton may begin
+-- The token of an op that ends an expression, at which a skeleton may begin. Of the forms with type names and of
+-- initialisers it is the key token of the expression.
 abbrev pub fresh_key : Op → Option ℕ
 fresh_key (ops.Expr op) = expr_key op
 fresh_key (ops.Form op) = form_key op

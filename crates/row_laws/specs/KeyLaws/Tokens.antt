@@ -7,7 +7,8 @@ use Rattle.tape_ops.specs.declared.expression.ExprOp.{ExprOp}
 use Rattle.tape_ops.specs.declared.expression.ExprOp.TheVariants as exprs
 use Rattle.c_tape.specs.Tape.{tape_of}
 use Rattle.type_rules.specs.Program.{Source}
-use Rattle.row_laws.specs.KeyLaws.Keys.{form_key, init_key, spec_key, declr_key}
+use Rattle.row_laws.specs.KeyLaws.Keys.{spec_key, declr_key}
+use Rattle.expr_types.specs.Keys.{form_key, init_key}
 use Rattle.row_laws.specs.KeyLaws.Differing.{IsRead}
 
 -- the token of an operand or operator, also where no skeleton begins there

@@ -1,6 +1,5 @@
 -- Along the tape of a well-formed unit skeletons begin where the definition on its tree says, and the candidates of
--- selections are those
--- that it says.
+-- selections are those that it says.
 use Rattle.std.specs.Prelude.{◌≡◌, All, List, [], ◌∷◌, ◌++◌, Bool}
 use Rattle.c_tree.specs.declared.lexeme.Lexeme.{Lexeme}
 use Rattle.c_tree.specs.Unit.{Item, IsUnit}
@@ -38,7 +37,8 @@ StartsOfProgramAreFound = (access : Bool) (sources : List Source) → All IsSoun
 -- the law: the selections of a unit are those that are found on its tape, in their order
 abbrev pub SelectionsAreFound : Type 0
 SelectionsAreFound =
-    (u : Spelling) (s : Names) (items : List Item) → selections_found u s nothing (tape_of items) ≡ items_selections u s items
+    (u : Spelling) (s : Names) (items : List Item)
+    → selections_found u s nothing (tape_of items) ≡ items_selections u s items
 
 -- the candidates of the selections of units, in the order of their tapes
 abbrev pub selections_on : Names → List Source → List Selection

@@ -55,7 +55,8 @@ naming_row w (identified_param f) token = identified_row w (function_skeleton w 
 -- an operand flows into what it initialises
 abbrev pub into_target : World → Option Skel → Operand → Span → List Constraint
 into_target w None it where_ = []
-into_target w (Some t) it where_ = flowing (is_zero_operand it) (vals.value (val_of_operand it)) t (all_lattices w) where_
+into_target w (Some t) it where_ =
+    flowing (is_zero_operand it) (vals.value (val_of_operand it)) t (all_lattices w) where_
 
 -- the skeleton of the function that is called, below an argument behind which there are so many
 abbrev pub called_at : ℕ → State → Skel

@@ -13,8 +13,7 @@ use Rattle.tape_ops.specs.declared.statement.StmtOp.TheVariants as stmts
 use Rattle.name_rules.specs.ShapeSteps.State.{OpenDeclaration, declared_last, changed, without_innermost}
 
 -- what the name of a declarator is, by the list or the body that it stands in: a declared name or a member, a parameter
--- of the
--- function with a body whose name is at a token, with its number, or a parameter of another function
+-- of the function with a body whose name is at a token, with its number, or a parameter of another function
 pub data Naming : Type 0 where
   a_name : Naming
   own_param : Option ℕ → ℕ → Naming
@@ -55,7 +54,7 @@ naming r = (innermost r.around).naming
 abbrev pub with_round : Naming → Bool → Rounds → Rounds
 with_round names quiet r = record r { around = record { naming = names; is_quiet = quiet } ∷ r.around }
 
--- a scope or a body begins: it is as quiet as what is around it
+-- a scope or a body begins: it is as quiet as its context
 abbrev pub entered : Rounds → Rounds
 entered r = with_round a_name (is_quiet r) r
 
@@ -109,7 +108,7 @@ identified r = record r { around = changed identified_round r.around }
 
 -- by the declarations that are open
 
--- what is around behind an op of the forms with type names: at some of them what was quiet ends
+-- the context behind an op of the forms with type names: at some of them what was quiet ends
 abbrev pub form_round : Rounds → FormOp → Rounds
 form_round r (forms.Cast token last) = r
 form_round r (forms.Sizeof token) = left r
@@ -126,7 +125,7 @@ form_round r forms.NoType = r
 form_round r (forms.Choose token) = r
 form_round r (forms.Generic token count) = r
 
--- what is around behind an op of specifiers: bodies of tags begin and end
+-- the context behind an op of specifiers: bodies of tags begin and end
 abbrev pub spec_round : Rounds → SpecOp → Rounds
 spec_round r (specs.Word token) = r
 spec_round r (specs.Storage keyword) = r
@@ -144,7 +143,7 @@ spec_round r (specs.TypeofEnd token) = r
 spec_round r specs.TypeEnd = r
 spec_round r specs.SpecsEnd = r
 
--- what is around behind an op of declarators: lists of parameters begin, go on and end
+-- the context behind an op of declarators: lists of parameters begin, go on and end
 abbrev pub declr_round : List OpenDeclaration → Rounds → DeclrOp → Rounds
 declr_round ds r (declrs.DeclName token name) = r
 declr_round ds r (declrs.ParamsBegin is_own) = with_round (params_naming is_own ds) (is_quiet r) r
@@ -162,7 +161,7 @@ declr_round ds r declrs.Member = r
 declr_round ds r (declrs.TypeName first) = r
 declr_round ds r declrs.DeclarationEnd = r
 
--- what is around behind an op of statements: scopes, bodies of functions and what is quiet
+-- the context behind an op of statements: scopes, bodies of functions and what is quiet
 abbrev pub stmt_round : List OpenDeclaration → Rounds → StmtOp → Rounds
 stmt_round ds r stmts.Quiet = silenced r
 stmt_round ds r stmts.Loud = left r
@@ -173,7 +172,7 @@ stmt_round ds r stmts.Leave = left r
 stmt_round ds r stmts.FunctionBody = record r { body = declared_last ds }
 stmt_round ds r stmts.FunctionEnd = record r { body = None }
 
--- what is around behind an op
+-- the context behind an op
 abbrev pub round_step : List OpenDeclaration → Rounds → Op → Rounds
 round_step ds r (ops.Expr op) = r
 round_step ds r (ops.Form op) = form_round r op

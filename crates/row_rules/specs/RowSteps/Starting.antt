@@ -29,7 +29,8 @@ function_at u s (Some token) = first_of s (declared_at s.declared (place u token
 
 -- what a fresh skeleton stands on at an op
 abbrev pub around : Spelling → Names → Rounds → Around
-around u s r = record { spelling = u; names = s; enclosing = function_at u s r.body; is_quiet = is_quiet r; access = r.access }
+around u s r =
+    record { spelling = u; names = s; enclosing = function_at u s r.body; is_quiet = is_quiet r; access = r.access }
 
 -- parameters of functions without a body have no skeleton
 abbrev pub naming_has : Spelling → Names → Naming → Having
@@ -40,7 +41,8 @@ naming_has u s (identified_param f) = of_function (function_at u s f)
 
 -- the skeletons that begin at an op of expressions
 abbrev pub expr_op_starts : Spelling → Names → State → Rounds → ExprOp → List Start
-expr_op_starts u s st r (exprs.Name is_called token name) = use_start (around u s r) token (use_at s.uses (place u token))
+expr_op_starts u s st r (exprs.Name is_called token name) =
+    use_start (around u s r) token (use_at s.uses (place u token))
 expr_op_starts u s st r (exprs.Number token) = fresh (around u s r) token (base [])
 expr_op_starts u s st r (exprs.Char token) = fresh (around u s r) token (base [])
 expr_op_starts u s st r (exprs.Text token) = fresh (around u s r) token (pointer [] text_type)
@@ -72,7 +74,8 @@ selected_among count st = selected_by (value_at (twice count) st) (associations 
 abbrev pub selection_at : Spelling → State → ℕ → ℕ → Selection
 selection_at u st token count = record {
   at = place u token;
-  flags = candidate_flags (has_of_type (value_at (twice count) st) (associations count st)) (value_at (twice count) st) (associations count st);
+  flags = candidate_flags (has_of_type (value_at (twice count) st) (associations count st)) (value_at (twice count) st)
+      (associations count st);
 }
 
 -- the selection by a type that an op of the forms with type names ends, where it does
@@ -124,7 +127,8 @@ form_op_starts u s st r forms.NoType = []
 form_op_starts u s st r (forms.Choose token) =
     fresh_where (is_fresh_pick (chosen st)) (some_fresh (around u s r) token (pick_shape (chosen st)).type)
 form_op_starts u s st r (forms.Generic token count) =
-    fresh_where (is_fresh_pick (selected_among count st)) (some_fresh (around u s r) token (pick_shape (selected_among count st)).type)
+    fresh_where (is_fresh_pick (selected_among count st))
+    (some_fresh (around u s r) token (pick_shape (selected_among count st)).type)
 
 -- the skeletons that begin at an op of initialisers: of compound literals alone
 abbrev pub init_op_starts : Spelling → Names → State → Rounds → InitOp → List Start

@@ -12,10 +12,8 @@ pub data Operand : Type 0 where
   named_type : Option CType → Operand
 
 -- a part of an initialiser in braces: all of it, with the skeleton that it initialises; a list of nothing; or a list
--- that
--- initialises a skeleton, with whether its next item is the first, the number of the next member, and what the
--- designators of
--- the next item name so far, where it has some
+-- that initialises a skeleton, with whether its next item is the first, the number of the next member, and what the
+-- designators of the next item name so far, where it has some
 pub data Braces : Type 0 where
   whole : Option Skel → Braces
   untargeted : Braces

@@ -277,7 +277,7 @@ stack_step w st (ops.Spec op) = spec_step st op
 stack_step w st (ops.Declr op) = declr_step w st op
 stack_step w st (ops.Stmt op) = stmt_step st op
 
--- what is around an op goes on, by the declarations that were open before it
+-- the context of an op goes on, by the declarations that were open before it
 abbrev pub with_round_step : State → Op → State → State
 with_round_step before op after = record after { rounds = round_step before.declarations before.rounds op }
 

@@ -16,6 +16,7 @@ pub innermost_found : (its : List Round) → round_of (get_or its 0 nothing) ≡
 innermost_found [] = refl
 innermost_found (it ∷ its) = refl
 
+-- whether the second of the open rounds is quiet is the same on the stack and by the rules
 pub outside_found : (its : List Round) → (get_or its 1 nothing).is_quiet
     ≡ (rules.innermost (states.without_innermost (map round_of its))).is_quiet
 outside_found [] = refl

@@ -1,4 +1,4 @@
-//! What each op of a tape does to what is around.
+//! What each op of a tape does to the context.
 
 ghost use Rattle.std.specs.Prelude.{◌≡◌, List, get_or, map, OnOk};
 ghost use Rattle.row_rules.specs.RowSteps.Rounds as rules;

@@ -142,11 +142,13 @@ within_viewed t st n e =
 pub gone_viewed : (t : Tables) (st : Stacked) (n : ℕ) (ls : List Operand) (bs : List Braces) (target : Option ℕ) →
     ls ≡ reverse (take n st.operands) → n ≡ states.depth_below (state_in t st) →
     bs ≡ braces.Whole target ∷ st.braces →
-    state_in t (record st { braces = bs; leaves = ls }) ≡ steps.gone_through (option_map (skel_in t) target) (state_in t st)
+    state_in t (record st { braces = bs; leaves = ls })
+    ≡ steps.gone_through (option_map (skel_in t) target) (state_in t st)
 gone_viewed t st n ls bs target l e b =
     ap (λ (bs : List Braces). state_in t (record st { braces = bs; leaves = ls })) b
     ∙ ap (λ (ls : List Operand). state_in t (record st { braces = braces.Whole target ∷ st.braces; leaves = ls })) l
-    ∙ ap (λ (ls : List states.Operand). record (state_in t st) { braces = states.whole (option_map (skel_in t) target) ∷ map (braces_in t) st.braces; leaves = ls })
+    ∙ ap (λ (ls : List states.Operand). record (state_in t st)
+    { braces = states.whole (option_map (skel_in t) target) ∷ map (braces_in t) st.braces; leaves = ls })
     (within_viewed t st n e)
 
 -- an initialiser in braces ends
@@ -167,22 +169,25 @@ left st os ns bs ls = record st { operands = os; bases = ns; braces = bs; leaves
 -- an initialiser that is left drops its operands, its braces and where it began, as in the state
 pub left_viewed : (t : Tables) (st : Stacked) (os : List Operand) (ns : List ℕ) (bs : List Braces) (ls : List Operand)
     → os ≡
-    drop (length st.operands - get_or st.bases 0 0) st.operands → ns ≡ drop 1 st.bases → bs ≡ drop 1 st.braces → ls ≡ [] →
+    drop (length st.operands - get_or st.bases 0 0) st.operands → ns ≡ drop 1 st.bases
+    → bs ≡ drop 1 st.braces → ls ≡ [] →
     state_in t (left st os ns bs ls) ≡ steps.braces_left (states.operands_below (state_in t st)) (state_in t st)
 left_viewed t st os ns bs ls e n b l =
     ap (λ (ls : List Operand). state_in t (left st os ns bs ls)) l
-    ∙ ap (λ (os : List Operand). state_in t (left st os ns bs [])) e
-    ∙ ap (λ (ns : List ℕ). state_in t (left st (drop (length st.operands - get_or st.bases 0 0) st.operands) ns bs []))
-    (n ∙ bases_left st.bases)
-    ∙ ap (λ (bs : List Braces). state_in t
-    (left st (drop (length st.operands - get_or st.bases 0 0) st.operands) (declarations.without_innermost st.bases) bs []))
-    b
-    ∙ ap (λ (os : List states.Operand). record (state_in t st)
-    { operands = os; bases = declarations.without_innermost st.bases; braces = map (braces_in t) (drop 1 st.braces); leaves = [] })
-    (below_viewed t st)
-    ∙ ap (λ (bs : List states.Braces). record (state_in t st)
-    { operands = states.operands_below (state_in t st); bases = declarations.without_innermost st.bases; braces = bs; leaves = [] })
-    (braces_left t st.braces)
+    ∙ ap (λ (os : List Operand). state_in t (left st os ns bs [])) e ∙ ap (λ (ns : List ℕ). state_in t
+    (left st (drop (length st.operands - get_or st.bases 0 0) st.operands) ns bs [])) (n ∙ bases_left st.bases)
+    ∙ ap (λ (bs : List Braces). state_in t (left st (drop (length st.operands - get_or st.bases 0 0) st.operands)
+    (declarations.without_innermost st.bases) bs [])) b ∙ ap (λ (os : List states.Operand). record (state_in t st) {
+      operands = os;
+      bases = declarations.without_innermost st.bases;
+      braces = map (braces_in t) (drop 1 st.braces);
+      leaves = [];
+    }) (below_viewed t st) ∙ ap (λ (bs : List states.Braces). record (state_in t st) {
+      operands = states.operands_below (state_in t st);
+      bases = declarations.without_innermost st.bases;
+      braces = bs;
+      leaves = [];
+    }) (braces_left t st.braces)
 
 -- another list in place of the innermost
 pub braces_changed : (t : Tables) (change : states.Braces → states.Braces) (its : List Braces) (new : Braces) →

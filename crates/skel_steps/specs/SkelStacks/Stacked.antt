@@ -27,4 +27,14 @@ is_last (braces.Listed skel is_first next named) = nat_eq next 18446744073709551
 -- a unit begins with nothing on any stack
 abbrev pub nothing : Stacked
 nothing =
-    record { operands = []; bases = []; braces = []; leaves = []; literal = None; carried = None; declarations = []; rounds = file false; passed = 0 }
+    record {
+      operands = [];
+      bases = [];
+      braces = [];
+      leaves = [];
+      literal = None;
+      carried = None;
+      declarations = [];
+      rounds = file false;
+      passed = 0;
+    }

@@ -1,9 +1,9 @@
 -- The state that the stacks stand for, with skeletons and types in place of their numbers in two tables.
 use Rattle.std.specs.Prelude.{ℕ, List, map, Option, Some, None, option_map}
-use Rattle.type_table.specs.declared.row.Row.{Row}
+use Rattle.type_table.specs.declared.row.TypeRow.{TypeRow}
 use Rattle.type_table.specs.Types.{CType}
 use Rattle.type_table.specs.Rows.{type_of}
-use Rattle.qual_types.specs.declared.row.Row as variables
+use Rattle.qual_types.specs.declared.row.VarRow as variables
 use Rattle.qual_types.specs.Skel.{Skel, no_skeleton}
 use Rattle.qual_types.specs.Rows.{skel_of}
 use Rattle.expr_shapes.specs.ShapeStacks.Views.{open_as}
@@ -18,11 +18,11 @@ use Rattle.skel_steps.specs.SkelStacks.Stacked.{Stacked}
 
 -- the rows of the table of qualifier variables, and those of the table of types
 pub record Tables : Type 0 where
-  pub variables : List variables.Row
-  pub types : List Row
+  pub variables : List variables.VarRow
+  pub types : List TypeRow
 
 -- a table of qualifier variables and a table of types
-abbrev pub tables : List variables.Row → List Row → Tables
+abbrev pub tables : List variables.VarRow → List TypeRow → Tables
 tables variables types = record { variables = variables; types = types }
 
 -- the skeleton of a number

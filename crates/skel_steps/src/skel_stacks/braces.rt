@@ -1,7 +1,7 @@
 //! Initialisers in braces.
 
 ghost use Rattle.std.specs.Prelude.{◌≡◌, option_map, ◌∷◌, false, drop, List, OnOk};
-ghost use Rattle.type_table.specs.declared.row.Row as row;
+ghost use Rattle.type_table.specs.declared.row.TypeRow as row;
 ghost use Rattle.row_rules.specs.RowSteps.State as states;
 ghost use Rattle.name_rules.specs.ShapeSteps.State.{without_innermost};
 ghost use Rattle.row_rules.specs.RowSteps.Steps as steps;
@@ -68,7 +68,8 @@ impl Stacks {
 
     /// The innermost list, behind a designator of an element. Constant time.
     pub fn index(&mut self, vars: &VarTable) -> Result<(), NoMemory>
-        ensures { OnOk result ((types : List row.Row) → state_in (tables vars.now types) self.new
+        ensures { OnOk result ((types : List row.TypeRow) → state_in (tables vars.now types)
+            self.new
             ≡ steps.in_braces steps.with_index (state_in (tables vars.now types) self.old)) }
     {
         let it = self.braces();
@@ -170,7 +171,7 @@ fn passed(it: &Braces) -> Braces
 
 /// A list behind a designator of an element.
 fn indexed(vars: &VarTable, it: &Braces) -> Braces
-    ensures { (types : List row.Row) → braces_in (tables vars.now types) result
+    ensures { (types : List row.TypeRow) → braces_in (tables vars.now types) result
         ≡ steps.with_index (braces_in (tables vars.now types) it.now) }
 {
     match it {

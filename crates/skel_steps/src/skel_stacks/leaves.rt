@@ -1,7 +1,7 @@
 //! Operands of an initialiser in braces that its items take.
 
 ghost use Rattle.std.specs.Prelude.{◌≡◌, option_map, ◌≤◌, ◌-◌, length, reverse, take, List, [], OnOk, Some};
-ghost use Rattle.type_table.specs.declared.row.Row as row;
+ghost use Rattle.type_table.specs.declared.row.TypeRow as row;
 ghost use Rattle.qual_types.specs.Rows.{skel_of};
 ghost use Rattle.row_rules.specs.Vals as vals;
 ghost use Rattle.row_world.specs.Shown.{val_in};
@@ -39,8 +39,8 @@ impl Stacks {
     /// The items of a compound literal, which has this skeleton, begin to take its operands. Linear in the number of these,
     /// but for growth.
     pub fn go_through_literal(&mut self, vars: &VarTable, skel: SkelId) -> Result<(), NoMemory>
-        ensures { OnOk result ((types : List row.Row) → state_in (tables vars.now types) self.new
-            ≡ steps.gone_through (Some (vals.contents (skel_of vars.now skel)))
+        ensures { OnOk result ((types : List row.TypeRow) → state_in (tables vars.now types)
+            self.new ≡ steps.gone_through (Some (vals.contents (skel_of vars.now skel)))
             (record (state_in (tables vars.now types) self.old)
             { literal = skel_of vars.now skel })) }
     {
@@ -60,7 +60,7 @@ impl Stacks {
 
     /// The pointer by which the place was come to that is only addressed. Constant time.
     pub fn carried(&self, vars: &VarTable) -> SkelId
-        ensures { (types : List row.Row) → skel_of vars.now result
+        ensures { (types : List row.TypeRow) → skel_of vars.now result
             ≡ (state_in (tables vars.now types) self.now).carried }
     {
         match self.carried {
@@ -90,7 +90,7 @@ impl Stacks {
 
     /// The expression that it is; a type is a place of no type. Constant time.
     pub fn leaf_val(&self, vars: &VarTable) -> Val
-        ensures { (types : List row.Row) → val_in vars.now result
+        ensures { (types : List row.TypeRow) → val_in vars.now result
             ≡ states.val_of_operand
             (states.first_operand (state_in (tables vars.now types) self.now).leaves) }
     {
@@ -120,8 +120,8 @@ impl Stacks {
 
     /// A compound literal ends, with its operands and its type, and is an operand itself. Constant time for each operand.
     pub fn leave_literal(&mut self, vars: &VarTable) -> Result<(), NoMemory>
-        ensures { OnOk result ((types : List row.Row) → state_in (tables vars.now types) self.new
-            ≡ steps.braces_left
+        ensures { OnOk result ((types : List row.TypeRow) → state_in (tables vars.now types)
+            self.new ≡ steps.braces_left
             (steps.literal_put (state_in (tables vars.now types) self.old).literal
             (states.operands_below (state_in (tables vars.now types) self.old)))
             (state_in (tables vars.now types) self.old)) }

@@ -1,7 +1,7 @@
 //! Operands.
 
 ghost use Rattle.std.specs.Prelude.{◌≡◌, option_map, List, OnOk};
-ghost use Rattle.type_table.specs.declared.row.Row as row;
+ghost use Rattle.type_table.specs.declared.row.TypeRow as row;
 ghost use Rattle.row_world.specs.Shown.{val_in};
 ghost use Rattle.row_rules.specs.RowSteps.State as states;
 ghost use Rattle.skel_steps.specs.SkelStacks.Views.{Tables, tables, state_in, operand_in, type_in};
@@ -14,7 +14,7 @@ use row_world::{Operand as Val, nowhere};
 impl Operand {
     /// What an expression is.
     pub(crate) fn val(&self, vars: &VarTable) -> Val
-        ensures { (types : List row.Row) → val_in vars.now result
+        ensures { (types : List row.TypeRow) → val_in vars.now result
             ≡ states.val_of_operand (operand_in (tables vars.now types) self.now) }
     {
         match self {
@@ -60,7 +60,7 @@ impl Stacks {
 
     /// The expression with so many operands above it; a type is a place of no type. Constant time.
     pub fn val_at(&self, vars: &VarTable, depth: usize) -> Val
-        ensures { (types : List row.Row) → val_in vars.now result
+        ensures { (types : List row.TypeRow) → val_in vars.now result
             ≡ states.val_at depth (state_in (tables vars.now types) self.now) }
     {
         self.operand_at(depth).val(vars)

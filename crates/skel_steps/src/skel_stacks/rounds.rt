@@ -33,7 +33,7 @@ impl Stacks {
         self.rounds.body()
     }
 
-    /// What an op does to what is around. Constant time but for growth.
+    /// What an op does to the context. Constant time but for growth.
     pub fn pass_around(&mut self, op: Op) -> Result<(), NoMemory>
         ensures { OnOk result ((t : Tables) → state_in t self.new
             ≡ steps.with_round_step (state_in t self.old) op (state_in t self.old)) }

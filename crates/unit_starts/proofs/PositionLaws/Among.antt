@@ -1,5 +1,6 @@
 -- The position of a variable among those of all skeletons.
 use Rattle.std.proofs.Common.{◌≡◌, ℕ, zero, suc, ◌+◌, List, [], ◌∷◌, ◌++◌, length, slice_get, Some, refl, sym, ◌∙◌, ap, arith, length-append, subst}
+use Rattle.qual_base.proofs.Lists.{get_left}
 use Rattle.type_table.specs.Types.{size}
 use Rattle.qual_types.specs.declared.position.Step.{Step}
 use Rattle.qual_types.specs.Positions.{PositionView}
@@ -9,7 +10,7 @@ use Rattle.row_rules.specs.Starting.{Start}
 use Rattle.row_rules.specs.Sites.{variables_among}
 use Rattle.row_rules.specs.Worlds.{Numbered, numbered_from}
 use Rattle.unit_starts.specs.PositionLaws.Positions.{paths, positions_at, positions_of, IsOneOf, PositionsStand, PositionsAreCounted}
-use Rattle.unit_starts.proofs.PositionLaws.Paths.{get_left, get_right, counted, IsAt, found}
+use Rattle.unit_starts.proofs.PositionLaws.Paths.{get_right, counted, IsAt, found}
 
 abbrev position : Place → List Step → PositionView
 position at p = record { unit = at.0; token = at.1; path = p }
@@ -32,7 +33,8 @@ all_counted (start ∷ starts) =
     let a : length (positions_at start.at (paths start.type) ++ positions_of starts)
     ≡ length (positions_at start.at (paths start.type)) + length (positions_of starts)
     = length-append (positions_at start.at (paths start.type)) (positions_of starts) in
-    let b : length (positions_at start.at (paths start.type)) ≡ length (paths start.type) = positions_length start.at (paths start.type) in
+    let b : length (positions_at start.at (paths start.type)) ≡ length (paths start.type) =
+    positions_length start.at (paths start.type) in
     let c : length (paths start.type) ≡ size start.type = counted start.type in
     let d : length (positions_of starts) ≡ variables_among starts = all_counted starts in
     omega arith
@@ -49,19 +51,23 @@ among : (starts : List Start) (m k : ℕ) (it : Numbered) → slice_get (numbere
 among [] m k it e v p at = absurd cc
 among (start ∷ starts) m zero it e v p at =
     let same : record { start = start; first = m } ≡ it = cc in
-    let At : Numbered → Type 0 = λ one. IsAt (paths one.start.type) one.first v p → IsAmong (start ∷ starts) m v (position one.start.at p) in
+    let At : Numbered → Type 0 = λ one. IsAt (paths one.start.type) one.first v p
+    → IsAmong (start ∷ starts) m v (position one.start.at p) in
     subst At same (λ here. record {
       index = here.offset;
       is = here.is;
-      there = get_left (positions_at start.at (paths start.type)) (positions_of starts) here.offset (position start.at p)
+      there =
+          get_left (positions_at start.at (paths start.type)) (positions_of starts) here.offset (position start.at p)
           (get_position start.at (paths start.type) here.offset p here.there);
     }) at
 among (start ∷ starts) m (suc k) it e v p at =
-    let later : IsAmong starts (m + size start.type) v (position it.start.at p) = among starts (m + size start.type) k it e v p at in
+    let later : IsAmong starts (m + size start.type) v (position it.start.at p) =
+    among starts (m + size start.type) k it e v p at in
     record {
       index = length (positions_at start.at (paths start.type)) + later.index;
       is = let a : v ≡ m + size start.type + later.index = later.is in
-          let b : length (positions_at start.at (paths start.type)) ≡ length (paths start.type) = positions_length start.at (paths start.type) in
+          let b : length (positions_at start.at (paths start.type)) ≡ length (paths start.type) =
+          positions_length start.at (paths start.type) in
           let c : length (paths start.type) ≡ size start.type = counted start.type in
           omega arith;
       there = get_right (positions_at start.at (paths start.type)) (positions_of starts) later.index ∙ later.there;
@@ -74,8 +80,10 @@ stand rows starts those p v it =
     let Leads : Skel → Type 0 = λ s. follow p.path s ≡ Some v in
     let leads : follow p.path (numbered one.one.start.type it.top) ≡ Some v = subst Leads one.skeleton it.path in
     let From : ℕ → Type 0 = λ n. follow p.path (numbered one.one.start.type n) ≡ Some v in
-    let at : IsAt (paths one.one.start.type) one.one.first v p.path = found one.one.start.type one.one.first p.path v (subst From (sym one.first) leads) in
-    let among_all : IsAmong starts 0 v (position one.one.start.at p.path) = among starts 0 one.index one.one one.there v p.path at in
+    let at : IsAt (paths one.one.start.type) one.one.first v p.path =
+    found one.one.start.type one.one.first p.path v (subst From (sym one.first) leads) in
+    let among_all : IsAmong starts 0 v (position one.one.start.at p.path) =
+    among starts 0 one.index one.one one.there v p.path at in
     let Here : ℕ → Type 0 = λ n. slice_get (positions_of starts) n ≡ Some (position one.one.start.at p.path) in
     let here : slice_get (positions_of starts) v ≡ Some (position one.one.start.at p.path) =
     let e : v ≡ 0 + among_all.index = among_all.is in

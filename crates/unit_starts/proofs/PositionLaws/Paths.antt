@@ -4,16 +4,11 @@ use Rattle.type_table.specs.Types.{CType, base, void, struct, pointer, function,
 use Rattle.qual_types.specs.declared.position.Step.{Step}
 use Rattle.qual_types.specs.declared.position.Step.TheVariants as steps
 use Rattle.std.specs.Option.{option_and_then}
+use Rattle.qual_base.proofs.Lists.{get_left}
 use Rattle.qual_types.specs.Skel.{numbered, all_numbered, numbered_ellipsis, follow, ended, param_at}
 use Rattle.unit_starts.specs.PositionLaws.Positions.{behind, ellipsis_paths, paths, param_paths}
 
 -- lists
-
--- an element of a list keeps its index in the list with others behind it
-pub get_left : {A : Type 0} (xs ys : List A) (n : ℕ) (x : A) → slice_get xs n ≡ Some x → slice_get (xs ++ ys) n ≡ Some x
-get_left [] ys n x e = absurd cc
-get_left (y ∷ xs) ys zero x e = e
-get_left (y ∷ xs) ys (suc n) x e = get_left xs ys n x e
 
 -- behind the length of the first of two lists stand the elements of the second
 pub get_right : {A : Type 0} (xs ys : List A) (n : ℕ) → slice_get (xs ++ ys) (length xs + n) ≡ slice_get ys n
@@ -146,15 +141,18 @@ mutual
       subst At e (found_param ps 0 i (n + 1) p v is)))
   found (function ws ps r e) n (steps.Result ∷ p) v is =
       later_at (param_paths 0 ps ++ (behind steps.Result (paths r) ++ ellipsis_paths e)) n v (steps.Result ∷ p)
-      (right_at (param_paths 0 ps) (behind steps.Result (paths r) ++ ellipsis_paths e) (n + 1) (n + 1 + sizes ps) v (steps.Result ∷ p)
+      (right_at (param_paths 0 ps) (behind steps.Result (paths r) ++ ellipsis_paths e) (n + 1) (n + 1 + sizes ps) v
+      (steps.Result ∷ p)
       (ap (λ (m : ℕ). n + 1 + m) (sym (all_counted ps 0)))
       (left_at (behind steps.Result (paths r)) (ellipsis_paths e) (n + 1 + sizes ps) v (steps.Result ∷ p)
       (inside_at steps.Result (paths r) (n + 1 + sizes ps) v p (found r (n + 1 + sizes ps) p v is))))
   found (function ws ps r e) n (steps.Ellipsis ∷ p) v is =
       later_at (param_paths 0 ps ++ (behind steps.Result (paths r) ++ ellipsis_paths e)) n v (steps.Ellipsis ∷ p)
-      (right_at (param_paths 0 ps) (behind steps.Result (paths r) ++ ellipsis_paths e) (n + 1) (n + 1 + sizes ps) v (steps.Ellipsis ∷ p)
+      (right_at (param_paths 0 ps) (behind steps.Result (paths r) ++ ellipsis_paths e) (n + 1) (n + 1 + sizes ps) v
+      (steps.Ellipsis ∷ p)
       (ap (λ (m : ℕ). n + 1 + m) (sym (all_counted ps 0)))
-      (right_at (behind steps.Result (paths r)) (ellipsis_paths e) (n + 1 + sizes ps) (n + 1 + sizes ps + size r) v (steps.Ellipsis ∷ p)
+      (right_at (behind steps.Result (paths r)) (ellipsis_paths e) (n + 1 + sizes ps) (n + 1 + sizes ps + size r) v
+      (steps.Ellipsis ∷ p)
       (ap (λ (m : ℕ). n + 1 + sizes ps + m) (sym (behind_length steps.Result (paths r) ∙ counted r)))
       (ellipsis_at e p (n + 1 + sizes ps + size r) v is)))
 
@@ -164,12 +162,14 @@ mutual
       → IsAt (param_paths j ts) n v (steps.Param (j + i) ∷ p)
   found_param no_types j i n p v e = absurd cc
   found_param (more_types t ts) j zero n p v e =
-      let At : ℕ → Type 0 = λ m. IsAt (behind (steps.Param j) (paths t) ++ param_paths (suc j) ts) n v (steps.Param m ∷ p) in
+      let At : ℕ → Type 0 =
+      λ m. IsAt (behind (steps.Param j) (paths t) ++ param_paths (suc j) ts) n v (steps.Param m ∷ p) in
       let same : j ≡ j + 0 = omega arith in
       subst At same (left_at (behind (steps.Param j) (paths t)) (param_paths (suc j) ts) n v (steps.Param j ∷ p)
       (inside_at (steps.Param j) (paths t) n v p (found t n p v e)))
   found_param (more_types t ts) j (suc i) n p v e =
-      right_at (behind (steps.Param j) (paths t)) (param_paths (suc j) ts) n (n + size t) v (steps.Param (j + suc i) ∷ p)
+      right_at (behind (steps.Param j) (paths t)) (param_paths (suc j) ts) n (n + size t) v
+      (steps.Param (j + suc i) ∷ p)
       (ap (λ (m : ℕ). n + m) (sym (behind_length (steps.Param j) (paths t) ∙ counted t)))
       (let At : ℕ → Type 0 = λ m. IsAt (param_paths (suc j) ts) (n + size t) v (steps.Param m ∷ p) in
       let same : suc j + i ≡ j + suc i = omega arith in

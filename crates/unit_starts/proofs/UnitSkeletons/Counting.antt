@@ -43,7 +43,8 @@ place_next n [] at p = let e : n ≡ n + 0 = omega arith in
 place_next n (q ∷ places) at p = by_test (is_place q p) (place_next (suc n) places at p)
   where
     by_test : (b : Bool)
-        → place_among (suc n) (places ++ at ∷ []) p ≡ or_else (place_among (suc n) places p) (there at (suc n + length places) p)
+        → place_among (suc n) (places ++ at ∷ []) p
+        ≡ or_else (place_among (suc n) places p) (there at (suc n + length places) p)
         → (if b then Some n else place_among (suc n) (places ++ at ∷ []) p)
         ≡ or_else (if b then Some n else place_among (suc n) places p) (there at (n + suc (length places)) p)
     by_test true is = refl

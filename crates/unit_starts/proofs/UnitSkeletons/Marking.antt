@@ -1,6 +1,7 @@
 -- Each skeleton of a table is one of those that were added.
-use Rattle.std.proofs.Common.{◌≡◌, ◌⊎◌, ℕ, zero, suc, ◌<◌, arith, List, [], ◌∷◌, ◌++◌, length, slice_get, Some, None, inl, inr, refl, sym, ◌∙◌, ap}
-use Rattle.qual_types.specs.declared.row.Row.{Row}
+use Rattle.std.proofs.Common.{◌≡◌, ◌⊎◌, ℕ, zero, suc, ◌<◌, List, [], ◌∷◌, ◌++◌, length, slice_get, Some, None, inl, inr, refl, sym, ◌∙◌, ap}
+use Rattle.qual_base.proofs.Tests.{in_order}
+use Rattle.qual_types.specs.declared.row.VarRow.{VarRow}
 use Rattle.qual_types.specs.Skel.{numbered}
 use Rattle.qual_types.specs.Rows.{skel_of}
 use Rattle.qual_types.specs.Table.{Keeps, mark_of}
@@ -19,32 +20,13 @@ there_behind : (xs ys : List Numbered) (x : Numbered) → slice_get (xs ++ (x �
 there_behind [] ys x = refl
 there_behind (y ∷ xs) ys x = there_behind xs ys x
 
--- a row of the table with a mark is within the table
-below_table : (rows : List Row) (n : ℕ) (mark : ℕ × ℕ) → mark_of rows n ≡ Some mark → n < length rows
-below_table [] n mark is = absurd cc
-below_table (row ∷ rows) zero mark is = omega arith
-below_table (row ∷ rows) (suc n) mark is = let lt = below_table rows n mark is in omega (arith, lt)
-
--- of two numbers one is below the other, or they are equal
-order : (n m : ℕ) → (n < m) ⊎ ((n ≡ m) ⊎ (m < n))
-order zero zero = inr (inl refl)
-order zero (suc m) = inl (omega arith)
-order (suc n) zero = inr (inr (omega arith))
-order (suc n) (suc m) = elim (order n m) [
-  | inl lt ↦ inl (omega (arith, lt))
-  | inr other ↦ elim other [
-    | inl e ↦ inr (inl (ap suc e))
-    | inr lt ↦ inr (inr (omega (arith, lt)))
-  ]
-]
-
 -- one more skeleton
-module _ (rows new : List Row) (x : Start) (kept : Keeps rows new) (at : ℕ) (same : at ≡ length rows)
+module _ (rows new : List VarRow) (x : Start) (kept : Keeps rows new) (at : ℕ) (same : at ≡ length rows)
     (skel : skel_of new at ≡ numbered x.type (length rows)) (mark : mark_of new at ≡ Some x.at)
     (inner : (n : ℕ) → length rows < n → mark_of new n ≡ None) where
   pub marked_on : (before : List Numbered) → AreMarked rows before
       → AreMarked new (before ++ numbered_from (length rows) (x ∷ []))
-  marked_on before marked n named is = by_order (order n (length rows))
+  marked_on before marked n named is = by_order (in_order n (length rows))
     where
       this : Numbered
       this = record { start = x; first = length rows }

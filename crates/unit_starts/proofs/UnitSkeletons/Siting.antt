@@ -7,7 +7,7 @@ use Rattle.name_tables.specs.PlaceMap.Values.{or_else, there}
 use Rattle.name_tables.proofs.PlaceMap.Adding.{or_none, or_assoc}
 use Rattle.row_rules.specs.Starting.{Start}
 use Rattle.row_rules.specs.Sites.{site_of, place_of, site_places}
-use Rattle.type_table.specs.declared.row.Row.{Row as TypeRow}
+use Rattle.type_table.specs.declared.row.TypeRow.{TypeRow}
 use Rattle.unit_starts.specs.declared.start.Start as code
 use Rattle.unit_starts.specs.Views.{start_in}
 use Rattle.unit_starts.specs.UnitSkeletons.Numbers.{place_among}
@@ -46,7 +46,8 @@ pub sites_next : (types : List TypeRow) (functions : List Place) (starts : List 
     → ((p : Place)
     → or_else (before p) (place_among (length old) (site_places (map (start_in types) (drop i starts))) p) ≡ whole p)
     → (p : Place)
-    → or_else (after p) (place_among (length new) (site_places (map (start_in types) (drop (i + 1) starts))) p) ≡ whole p
+    → or_else (after p)
+    (place_among (length new) (site_places (map (start_in types) (drop (i + 1) starts))) p) ≡ whole p
 sites_next types functions starts i x old new before after whole lt item is added so p =
     sites_on functions (start_in types x) x.calls old new before after
     (site_places (map (start_in types) (drop (i + 1) starts))) is added p

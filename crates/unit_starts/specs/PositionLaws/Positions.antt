@@ -3,7 +3,7 @@ use Rattle.std.specs.Prelude.{◌≡◌, ℕ, suc, List, [], ◌∷◌, ◌++◌
 use Rattle.type_table.specs.Types.{CType, base, void, struct, pointer, function, CTypes, no_types, more_types, Words}
 use Rattle.qual_types.specs.declared.position.Step.{Step}
 use Rattle.qual_types.specs.declared.position.Step.TheVariants as steps
-use Rattle.qual_types.specs.declared.row.Row.{Row}
+use Rattle.qual_types.specs.declared.row.VarRow.{VarRow}
 use Rattle.qual_types.specs.Positions.{PositionView}
 use Rattle.qual_types.specs.Skel.{numbered}
 use Rattle.qual_types.specs.Rows.{skel_of}
@@ -48,7 +48,7 @@ positions_of [] = []
 positions_of (start ∷ starts) = positions_at start.at (paths start.type) ++ positions_of starts
 
 -- a skeleton of a table is one of these
-pub record IsOneOf (rows : List Row) (all : List Numbered) (n : ℕ) (mark : ℕ × ℕ) : Type 0 where
+pub record IsOneOf (rows : List VarRow) (all : List Numbered) (n : ℕ) (mark : ℕ × ℕ) : Type 0 where
   pub index : ℕ
   pub one : Numbered
   pub there : slice_get all index ≡ Some one
@@ -57,14 +57,15 @@ pub record IsOneOf (rows : List Row) (all : List Numbered) (n : ℕ) (mark : ℕ
   pub skeleton : skel_of rows n ≡ numbered one.start.type n
 
 -- each skeleton of a table is one of those that begin so
-abbrev pub AreThose : List Row → List Start → Type 0
-AreThose rows starts = (n : ℕ) (mark : ℕ × ℕ) → mark_of rows n ≡ Some mark → IsOneOf rows (numbered_from 0 starts) n mark
+abbrev pub AreThose : List VarRow → List Start → Type 0
+AreThose rows starts =
+    (n : ℕ) (mark : ℕ × ℕ) → mark_of rows n ≡ Some mark → IsOneOf rows (numbered_from 0 starts) n mark
 
 -- the law: where a position of a table of variables leads to a variable, it stands under that number in the list of
 -- positions
 abbrev pub PositionsStand : Type 0
 PositionsStand =
-    (rows : List Row) (starts : List Start) → AreThose rows starts
+    (rows : List VarRow) (starts : List Start) → AreThose rows starts
     → (p : PositionView) (v : ℕ) → Stands rows p v → slice_get (positions_of starts) v ≡ Some p
 
 -- the law: there is a position for each variable

@@ -1,6 +1,8 @@
 -- What the tokens name, token by token.
-use Rattle.std.proofs.Common.{arith, ◌≡◌, ℕ, zero, suc, ◌+◌, ◌<◌, ◌≤◌, nat_eq, nat_lt, Bool, true, false, ◌&&◌, List, [], ◌∷◌, length, slice_get, Option, Some, None, option_map, unwrap_or, inl, inr, refl, sym, ◌∙◌, ap, if◌then◌else◌}
+use Rattle.std.proofs.Common.{arith, ◌≡◌, ℕ, suc, ◌+◌, nat_eq, nat_lt, Bool, true, false, ◌&&◌, length, slice_get, Option, Some, None, option_map, unwrap_or, inl, inr, refl, sym, ◌∙◌, ap, if◌then◌else◌}
 use Rattle.std.proofs.lemmas.Bool.Decides.{eqb_tells, leb_tells}
+use Rattle.std.proofs.lemmas.Option.{slice_get_past}
+use Rattle.qual_base.proofs.Tests.{is_below, not_below}
 use Rattle.c_lexer.specs.declared.token.Token.{Token}
 use Rattle.c_lexer.specs.Tokens.{Lexed, mark_of_kind}
 use Rattle.name_rules.specs.Spellings.{Place}
@@ -8,26 +10,6 @@ use Rattle.name_rules.specs.Scopes.{is_place}
 use Rattle.name_tables.specs.declared.place_map.map.PlaceMap.{PlaceMap}
 use Rattle.name_tables.specs.PlaceMap.Values.{value_at, or_else}
 use Rattle.unit_system.specs.SourceMarks.Marks.{mark_at, mark_in, mark_before, mark_there, IsMarked}
-
--- a number that is below another compares as below
-below_true : (k n : ℕ) → k < n → nat_lt k n ≡ true
-below_true k n lt = elim (leb_tells (suc k) n) [
-  | inl a ↦ a.0
-  | inr b ↦ absurd (let h = b.1 in omega arith)
-]
-
--- a number that is not below another does not compare as below
-below_false : (k n : ℕ) → n ≤ k → nat_lt k n ≡ false
-below_false k n le = elim (leb_tells (suc k) n) [
-  | inl a ↦ absurd (let h = a.1 in omega arith)
-  | inr b ↦ b.0
-]
-
--- past its end a list has no element
-past : {A : Type 0} (xs : List A) (n : ℕ) → length xs ≤ n → slice_get xs n ≡ None
-past [] n le = refl
-past (x ∷ xs) zero le = absurd (omega arith)
-past (x ∷ xs) (suc n) le = past xs n (omega arith)
 
 or_assoc : {V : Type 0} (a b c : Option V) → or_else a (or_else b c) ≡ or_else (or_else a b) c
 or_assoc None b c = refl
@@ -59,7 +41,7 @@ module _ (lexed : Lexed) where
 
   same_below : (k n : ℕ) → (n ≡ k → ⊥) → nat_lt k (n + 1) ≡ nat_lt k n
   same_below k n apart = elim (leb_tells (suc k) n) [
-    | inl a ↦ below_true k (n + 1) (let h = a.1 in omega arith) ∙ sym a.0
+    | inl a ↦ is_below k (n + 1) (let h = a.1 in omega arith) ∙ sym a.0
     | inr b ↦ elim (leb_tells (suc k) (n + 1)) [
       | inl c ↦ absurd (apart (let h = b.1 in let e = c.1 in omega arith))
       | inr d ↦ d.0 ∙ sym b.0
@@ -71,22 +53,21 @@ module _ (lexed : Lexed) where
   with_one n p = by_unit (nat_eq lexed.unit p.0)
     where
       by_unit : (u : Bool)
-          → or_else (if u && nat_eq n p.1 then mark_at lexed n else None) (if u && nat_lt p.1 n then mark_at lexed p.1 else None)
+          → or_else (if u && nat_eq n p.1 then mark_at lexed n else None)
+          (if u && nat_lt p.1 n then mark_at lexed p.1 else None)
           ≡ (if u && nat_lt p.1 (n + 1) then mark_at lexed p.1 else None)
       by_unit false = refl
       by_unit true = elim (eqb_tells n p.1) [
         | inl a ↦
-            ap (λ (b : Bool). or_else (if b then mark_at lexed n else None) (if nat_lt p.1 n then mark_at lexed p.1 else None))
-            a.0
+            ap (λ (b : Bool). or_else (if b then mark_at lexed n else None)
+            (if nat_lt p.1 n then mark_at lexed p.1 else None)) a.0
             ∙ ap (λ (b : Bool). or_else (mark_at lexed n) (if b then mark_at lexed p.1 else None))
-            (below_false p.1 n (let e = a.1 in omega arith))
-            ∙ or_none (mark_at lexed n)
-            ∙ ap (λ (k : ℕ). mark_at lexed k) a.1
-            ∙ ap (λ (b : Bool). if b then mark_at lexed p.1 else None)
-            (sym (below_true p.1 (n + 1) (let e = a.1 in omega arith)))
+            (not_below p.1 n (let e = a.1 in omega arith)) ∙ or_none (mark_at lexed n)
+            ∙ ap (λ (k : ℕ). mark_at lexed k) a.1 ∙ ap (λ (b : Bool). if b then mark_at lexed p.1 else None)
+            (sym (is_below p.1 (n + 1) (let e = a.1 in omega arith)))
         | inr d ↦
-            ap (λ (b : Bool). or_else (if b then mark_at lexed n else None) (if nat_lt p.1 n then mark_at lexed p.1 else None))
-            d.0
+            ap (λ (b : Bool). or_else (if b then mark_at lexed n else None)
+            (if nat_lt p.1 n then mark_at lexed p.1 else None)) d.0
             ∙ ap (λ (b : Bool). if b then mark_at lexed p.1 else None) (sym (same_below p.1 n d.1))
       ]
 
@@ -109,7 +90,7 @@ module _ (lexed : Lexed) where
         | inl a ↦ ap (λ (b : Bool). if b then mark_at lexed p.1 else None) a.0
         | inr b ↦ ap (λ (c : Bool). if c then mark_at lexed p.1 else None) b.0
             ∙ sym (ap (λ (o : Option Token). unwrap_or (option_map (λ token. mark_of_kind lexed token.kind) o) None)
-            (past lexed.tokens p.1 (let h = b.1 in omega arith)))
+            (slice_get_past lexed.tokens p.1 (let h = b.1 in omega arith)))
       ]
 
   pub mark_all : (n : ℕ) (old new : PlaceMap (ℕ × ℕ)) → n ≡ length lexed.tokens → IsMarked (mark_before lexed n) old new
@@ -128,7 +109,7 @@ module _ (lexed : Lexed) where
       by_unit false = refl
       by_unit true =
           ap (λ (b : Bool). or_else (if b then mark_at lexed p.1 else None) (value_at old p))
-          (sym (below_false p.1 0 (omega arith)))
+          (sym (not_below p.1 0 (omega arith)))
 
   -- what is read of a token
   pub mark_read : (n : ℕ) (o : Option (ℕ × ℕ))

@@ -1,6 +1,6 @@
 -- Rows are added op by op.
 use Rattle.std.proofs.Common.{◌≡◌, ◌<◌, ◌≤◌, ◌+◌, ℕ, zero, suc, List, [], ◌∷◌, ◌++◌, length, take, drop, get_or, refl, sym, ◌∙◌, ap, subst, arith, append_assoc}
-use Rattle.std.proofs.lemmas.List.{take_more}
+use Rattle.std.proofs.lemmas.List.{take_more, append-nil}
 use Rattle.flow_graph.specs.declared.constraint.Constraint.{Constraint}
 use Rattle.flow_graph.specs.declared.graph.GraphFault.{GraphFault}
 use Rattle.flow_graph.specs.declared.graph.GraphFault.TheVariants.{NoMemory}
@@ -13,7 +13,7 @@ use Rattle.row_rules.specs.RowSteps.Steps.{step, run}
 use Rattle.row_rules.specs.RowSteps.OpRows.{op_row}
 use Rattle.row_rules.specs.RowSteps.Found.{rows_found}
 use Rattle.row_adding.specs.Adding.{StopsEarly}
-use Rattle.unit_system.proofs.UnitRows.RowLists.{append_none, with_more, with_none, stops_within}
+use Rattle.unit_system.proofs.UnitRows.RowLists.{with_more, with_none, stops_within}
 
 run_more : (w : World) (st : State) (xs ys : List Op) → run w st (xs ++ ys) ≡ run w (run w st xs) ys
 run_more w st [] ys = refl
@@ -45,7 +45,8 @@ at_next w old now new st after ops op so row next = record {
       ∙ ap (λ (sys : System). with sys (op_row w st op)) so.rows
       ∙ with_more old (rows_found w nothing ops) (op_row w st op)
       ∙ ap (λ (s : State). with old (rows_found w nothing ops ++ op_row w s op)) so.state
-      ∙ ap (λ (cs : List Constraint). with old (rows_found w nothing ops ++ cs)) (sym (append_none (op_row w (run w nothing ops) op)))
+      ∙ ap (λ (cs : List Constraint). with old (rows_found w nothing ops ++ cs))
+      (sym (append-nil (op_row w (run w nothing ops) op)))
       ∙ ap (with old) (sym (rows_more w nothing ops (op ∷ [])));
   state =
       next ∙ ap (λ (s : State). step w s op) so.state ∙ sym (run_more w nothing ops (op ∷ []));
@@ -53,13 +54,15 @@ at_next w old now new st after ops op so row next = record {
 
 -- the rows along a tape are those before an op, the row of the op, and those behind it
 rows_split : (w : World) (ops rest : List Op) (op : Op) (st : State) → st ≡ run w nothing ops →
-    rows_found w nothing (ops ++ (op ∷ rest)) ≡ rows_found w nothing ops ++ (op_row w st op ++ rows_found w (step w st op) rest)
+    rows_found w nothing (ops ++ (op ∷ rest)) ≡ rows_found w nothing ops
+    ++ (op_row w st op ++ rows_found w (step w st op) rest)
 rows_split w ops rest op st e =
     rows_more w nothing ops (op ∷ rest)
     ∙ ap (λ (s : State). rows_found w nothing ops ++ (op_row w s op ++ rows_found w (step w s op) rest)) (sym e)
 
 -- the row of an op is refused
-pub at_refused : (w : World) (old now new : System) (fault : GraphFault) (st : State) (ops rest tape : List Op) (op : Op) →
+pub at_refused : (w : World) (old now new : System) (fault : GraphFault) (st : State)
+    (ops rest tape : List Op) (op : Op) →
     Reached w old now st ops → tape ≡ ops ++ (op ∷ rest) → StopsEarly now new fault (op_row w st op) →
     StopsEarly old new fault (rows_found w nothing tape)
 at_refused w old now new fault st ops rest tape op so split stop =

@@ -1,5 +1,6 @@
 -- What candidates of a pick give, one behind the other, and what is left of them.
 use Rattle.std.proofs.Common.{◌≡◌, ◌<◌, ◌≤◌, ◌-◌, ◌+◌, ℕ, suc, Bool, true, false, if◌then◌else◌, List, [], ◌∷◌, ◌++◌, refl, sym, ◌∙◌, ap, subst, arith, append_assoc}
+use Rattle.std.proofs.lemmas.List.{append-nil}
 use Rattle.qual_base.specs.declared.places.Span.{Span}
 use Rattle.flow_graph.specs.declared.constraint.Constraint.{Constraint}
 use Rattle.flow_graph.specs.declared.graph.GraphFault.{GraphFault}
@@ -16,15 +17,17 @@ use Rattle.name_rules.specs.ShapeSteps.Steps.{twice}
 use Rattle.skel_steps.specs.Picks.{is_several}
 use Rattle.row_adding.specs.Adding.{StopsEarly}
 use Rattle.unit_system.specs.UnitRows.Picking.{picking_row}
-use Rattle.unit_system.proofs.UnitRows.RowLists.{append_none, with_more, with_none, stops_within}
+use Rattle.unit_system.proofs.UnitRows.RowLists.{with_more, with_none, stops_within}
 
 module _ (w : World) (t : Skel) (s : Span) where
   picking_more : (some others : List Candidate)
       → picking w (some ++ others) t s ≡ picking w some t s ++ picking w others t s
   picking_more [] others = refl
   picking_more (it ∷ some) others =
-      ap (λ (cs : List Constraint). flowing it.is_zero (value it.val) t (all_lattices w) s ++ cs) (picking_more some others) ∙
-      sym (append_assoc (flowing it.is_zero (value it.val) t (all_lattices w) s) (picking w some t s) (picking w others t s))
+      ap (λ (cs : List Constraint). flowing it.is_zero (value it.val) t (all_lattices w) s ++ cs)
+      (picking_more some others) ∙
+      sym (append_assoc (flowing it.is_zero (value it.val) t (all_lattices w) s) (picking w some t s)
+      (picking w others t s))
 
   -- a zero gives none
   zeros_give_none : (all : List Candidate) → picking w (no_zeros all) t s ≡ picking w all t s
@@ -57,7 +60,8 @@ module _ (w : World) (t : Skel) (s : Span) where
 pub fresh_row : (w : World) (token : ℕ) (all : List Candidate) (b : Bool) → b ≡ true → b ≡ is_several (left_of all) →
     formed_here w token ++ picking_row w token all ≡ picked w (left_of all) (own w token) (span w token token)
 fresh_row w token all b holds is =
-    ap (λ (cs : List Constraint). formed_here w token ++ cs) (sym (picking_left w (own w token) (span w token token) all)) ∙
+    ap (λ (cs : List Constraint). formed_here w token ++ cs)
+    (sym (picking_left w (own w token) (span w token token) all)) ∙
     sym (several_picked w (own w token) (span w token token) (left_of all) (sym is ∙ holds))
 
 pub no_row : (w : World) (token : ℕ) (all : List Candidate) (b : Bool) → b ≡ false → b ≡ is_several (left_of all) →
@@ -69,7 +73,8 @@ one_where w token i n st = if w.candidate (at w token) i then candidate_at (twic
 
 -- the candidates from an association on are it, where it is one, and those from the next association on
 left_at : (w : World) (token i count : ℕ) (st : State) → i < count →
-    selected w token i (count - i) st ≡ one_where w token i (count - suc i) st ++ selected w token (i + 1) (count - (i + 1)) st
+    selected w token i (count - i) st ≡ one_where w token i (count - suc i) st
+    ++ selected w token (i + 1) (count - (i + 1)) st
 left_at w token i count st lt =
     let one : suc i ≡ i + 1 = omega arith in
     let left : count - i ≡ suc (count - suc i) = omega arith in
@@ -99,7 +104,8 @@ at_one_more w token count i st old now new is depth lt is_it depth_is so row =
     record {
       all = so.all ++ one;
       rows =
-          row ∙ (λ j. with (so.rows j) (picking_row w token (if is_it j then candidate_at (depth_is j) st ∷ [] else []))) ∙
+          row
+          ∙ (λ j. with (so.rows j) (picking_row w token (if is_it j then candidate_at (depth_is j) st ∷ [] else []))) ∙
           with_more old (picking_row w token so.all) (picking_row w token one) ∙
           ap (with old) (sym (picking_more w (own w token) (span w token token) so.all one));
       left =
@@ -114,10 +120,11 @@ pub at_end : (w : World) (token count i : ℕ) (st : State) (old now : System) �
 at_end w token count i st old now le so =
     let none : count - i ≡ 0 = omega arith in
     so.rows ∙ ap (λ (cs : List Candidate). with old (picking_row w token cs))
-    (sym (append_none so.all) ∙ ap (λ (n : ℕ). so.all ++ selected w token i n st) (sym none) ∙ so.left)
+    (sym (append-nil so.all) ∙ ap (λ (n : ℕ). so.all ++ selected w token i n st) (sym none) ∙ so.left)
 
 -- the row of an association is refused
-pub at_one_refused : (w : World) (token count i : ℕ) (st : State) (old now new : System) (fault : GraphFault) (is : Bool)
+pub at_one_refused : (w : World) (token count i : ℕ) (st : State) (old now new : System)
+    (fault : GraphFault) (is : Bool)
     (depth : ℕ) → i < count → is ≡ w.candidate (at w token) i → depth ≡ twice (count - suc i)
     → Picked w token count i st old now →
     StopsEarly now new fault (picking_row w token (if is then candidate_at depth st ∷ [] else [])) →
@@ -128,6 +135,8 @@ at_one_refused w token count i st old now new fault is depth lt is_it depth_is s
     let more = picking_more w (own w token) (span w token token) in
     stops_within old now new fault (picking_row w token so.all) (picking_row w token one) (picking_row w token others)
     (picking_row w token (selected w token 0 count st)) so.rows
-    (ap (picking_row w token) (sym so.left ∙ ap (λ (cs : List Candidate). so.all ++ cs) (left_at w token i count st lt)) ∙
+    (ap (picking_row w token)
+    (sym so.left ∙ ap (λ (cs : List Candidate). so.all ++ cs) (left_at w token i count st lt)) ∙
     more so.all (one ++ others) ∙ ap (λ (cs : List Constraint). picking_row w token so.all ++ cs) (more one others))
-    (subst (StopsEarly now new fault) (λ j. picking_row w token (if is_it j then candidate_at (depth_is j) st ∷ [] else [])) stop)
+    (subst (StopsEarly now new fault)
+    (λ j. picking_row w token (if is_it j then candidate_at (depth_is j) st ∷ [] else [])) stop)

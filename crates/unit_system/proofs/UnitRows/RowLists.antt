@@ -1,6 +1,6 @@
 -- A row that is added, and the row of an op.
 use Rattle.std.proofs.Common.{◌≡◌, ◌<◌, ◌≤◌, ◌+◌, ℕ, ◌∷◌, ◌++◌, List, [], length, take, Option, Some, None, Result, OnOk, IfErr, refl, sym, ◌∙◌, ap, subst, arith, append_assoc, length-append}
-use Rattle.std.proofs.lemmas.List.{take-append-le}
+use Rattle.std.proofs.lemmas.List.{take-append-le, append-nil}
 use Rattle.std.proofs.lemmas.Result.{on_ok_weaker, IfErr-weaker}
 use Rattle.std.proofs.Math.Seq.{take-append-add}
 use Rattle.flow_graph.specs.declared.constraint.Constraint.{Constraint}
@@ -22,27 +22,26 @@ use Rattle.row_adding.specs.Parts.{into_some}
 abbrev pub Same : Known → (World → List Constraint) → (World → List Constraint) → Type 0
 Same k rows others = (w : World) → Shows k w → rows w ≡ others w
 
-pub row_added : {T : Type 0} (r : Result T GraphFault) (k : Known) (old new : System) (rows others : World → List Constraint) →
+pub row_added : {T : Type 0} (r : Result T GraphFault) (k : Known) (old new : System)
+    (rows others : World → List Constraint) →
     Same k rows others → OnOk r (Adds k old new rows) → OnOk r (Adds k old new others)
 row_added r k old new rows others same added =
     on_ok_weaker r (λ a w shows. a w shows ∙ ap (with old) (same w shows)) added
 
 -- an adding that halts in some rows halts in rows that are the same in each world shown
-pub row_halted : {T : Type 0} (r : Result T GraphFault) (k : Known) (old new : System) (rows others : World → List Constraint) →
+pub row_halted : {T : Type 0} (r : Result T GraphFault) (k : Known) (old new : System)
+    (rows others : World → List Constraint) →
     Same k rows others → IfErr r (λ fault. Halts k old new fault rows) → IfErr r (λ fault. Halts k old new fault others)
 row_halted r k old new rows others same halted =
     IfErr-weaker r (λ fault. Halts k old new fault rows) (λ fault. Halts k old new fault others)
     (λ fault h w shows. subst (StopsEarly old new fault) (same w shows) (h w shows)) halted
 
-pub append_none : {A : Type 0} (xs : List A) → xs ++ [] ≡ xs
-append_none [] = refl
-append_none {A} (x ∷ xs) = ap (λ (ys : List A). x ∷ ys) (append_none xs)
-
 pub with_none : (sys : System) → sys ≡ with sys []
-with_none sys = sym (ap (λ (cs : List Constraint). record sys { constraints = cs }) (append_none sys.constraints))
+with_none sys = sym (ap (λ (cs : List Constraint). record sys { constraints = cs }) (append-nil sys.constraints))
 
 pub with_more : (sys : System) (xs ys : List Constraint) → with (with sys xs) ys ≡ with sys (xs ++ ys)
-with_more sys xs ys = ap (λ (cs : List Constraint). record sys { constraints = cs }) (append_assoc sys.constraints xs ys)
+with_more sys xs ys =
+    ap (λ (cs : List Constraint). record sys { constraints = cs }) (append_assoc sys.constraints xs ys)
 
 take_in : {A : Type 0} (xs ys zs : List A) (n : ℕ) → n ≤ length ys → take (length xs + n) (xs ++ (ys ++ zs)) ≡
     xs ++ take n ys
@@ -65,7 +64,8 @@ stops_within old now new fault before list after whole so all stop = record {
       stop.part
       ∙ ap (λ (sys : System). with sys (take stop.added list)) so
       ∙ with_more old before (take stop.added list)
-      ∙ ap (with old) (sym (ap (take (length before + stop.added)) all ∙ take_in before list after stop.added stop.within));
+      ∙ ap (with old)
+      (sym (ap (take (length before + stop.added)) all ∙ take_in before list after stop.added stop.within));
   full = λ many.
       let e = ap length all in
       let a = length-append before (list ++ after) in
@@ -76,19 +76,22 @@ stops_within old now new fault before list after whole so all stop = record {
 
 -- two rows, one behind the other
 
-pub rows_added : {T : Type 0} (r : Result T GraphFault) (k : Known) (old now new : System) (first second : World → List Constraint) →
+pub rows_added : {T : Type 0} (r : Result T GraphFault) (k : Known) (old now new : System)
+    (first second : World → List Constraint) →
     Adds k old now first → OnOk r (Adds k now new second) → OnOk r (Adds k old new (λ w. first w ++ second w))
 rows_added r k old now new first second one other =
-    on_ok_weaker r (λ a w shows. a w shows ∙ ap (λ (sys : System). with sys (second w)) (one w shows) ∙ with_more old (first w) (second w)) other
+    on_ok_weaker r (λ a w shows. a w shows ∙ ap (λ (sys : System). with sys (second w)) (one w shows)
+    ∙ with_more old (first w) (second w)) other
 
 -- where first rows were added and second ones halt, the two in a row halt
-pub rows_halted : {T : Type 0} (r : Result T GraphFault) (k : Known) (old now new : System) (first second : World → List Constraint) →
+pub rows_halted : {T : Type 0} (r : Result T GraphFault) (k : Known) (old now new : System)
+    (first second : World → List Constraint) →
     Adds k old now first → IfErr r (λ fault. Halts k now new fault second) →
     IfErr r (λ fault. Halts k old new fault (λ w. first w ++ second w))
 rows_halted r k old now new first second one other =
     IfErr-weaker r (λ fault. Halts k now new fault second) (λ fault. Halts k old new fault (λ w. first w ++ second w))
     (λ fault h w shows. stops_within old now new fault (first w) (second w) [] (first w ++ second w) (one w shows)
-    (ap (λ (cs : List Constraint). first w ++ cs) (sym (append_none (second w)))) (h w shows)) other
+    (ap (λ (cs : List Constraint). first w ++ cs) (sym (append-nil (second w)))) (h w shows)) other
 
 pub first_halted : (k : Known) (old new : System) (fault : GraphFault) (first second : World → List Constraint) →
     Halts k old new fault first → Halts k old new fault (λ w. first w ++ second w)
@@ -112,7 +115,7 @@ pub none_added : (k : Known) (graph : System) (rows : World → List Constraint)
     ((w : World) → Shows k w → rows w ≡ []) → Adds k graph graph rows
 none_added k graph rows none = λ w shows.
     sym (ap (with graph) (none w shows)
-    ∙ ap (λ (cs : List Constraint). record graph { constraints = cs }) (append_none graph.constraints))
+    ∙ ap (λ (cs : List Constraint). record graph { constraints = cs }) (append-nil graph.constraints))
 
 -- an operand that flows into what it initialises, by its parts
 pub into_same : (w : World) (t : Option Skel) (it : Operand) (where_ : Span) →

@@ -47,10 +47,11 @@ returns-clause-added c =
     let found = shows.stand c.args.listing.now.var position in_table (c.in_ok-position.ensures in_table) in
     let same_unit : c.in_ok-position.position.unit ≡ c.args.unit = grind arith in
     let was : slice_get c.args.comments.now.items c.number-token.result ≡ Some c.index_mut.result.now =
-    slice_get_read c.args.comments.now.items (length c.args.comments.now.items) c.number-token.result c.index_mut.result.now refl
+    slice_get_read c.args.comments.now.items
+    (length c.args.comments.now.items) c.number-token.result c.index_mut.result.now refl
     (grind arith) c.index_mut.ensures.value in
     let path : List Step = c.in_ok-position.position.path.items in
-    one_more s c.args.unit before c.args.listing.now c.args.comments.now.items position c.number-token.result c.index_mut.result.now
-    c.add_item.new.comment found same_unit (sym c.number-token.ensures)
-    (grind arith) was (c.in_ok-add_item.ensures.is s shows
-    ∙ ap (λ (p : List Step). begun_with c.index_mut.result.now.items ++ item_text s p c.args.listing.now) c.deref.ensures.value)
+    one_more s c.args.unit before c.args.listing.now c.args.comments.now.items position c.number-token.result
+    c.index_mut.result.now c.add_item.new.comment found same_unit (sym c.number-token.ensures) (grind arith) was
+    (c.in_ok-add_item.ensures.is s shows ∙ ap (λ (p : List Step). begun_with c.index_mut.result.now.items
+    ++ item_text s p c.args.listing.now) c.deref.ensures.value)

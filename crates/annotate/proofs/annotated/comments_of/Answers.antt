@@ -13,8 +13,10 @@ pub loop-listing-preserved : goal.loop-listing-preserved
 loop-listing-preserved c = (
   c.in_ok-add_listing.ensures.count ∙ c.loop-listing.invariant.0,
   λ s shows.
-      let Of : List Listing → Type 0 = λ listings. AreComments s c.args.unit listings c.add_listing.new.comments.items in
-      subst Of (taken_more c.args.listings.now c.loop-listing.listing-index c.listing-item.result (omega arith) (sym c.listing-item.is))
+      let Of : List Listing → Type 0 =
+      λ listings. AreComments s c.args.unit listings c.add_listing.new.comments.items in
+      subst Of (taken_more c.args.listings.now c.loop-listing.listing-index c.listing-item.result (omega arith)
+      (sym c.listing-item.is))
       (c.in_ok-add_listing.ensures.added s shows (take c.loop-listing.listing-index c.args.listings.now)
       (c.loop-listing.invariant.1 s shows)),
 )
@@ -25,5 +27,6 @@ returns c = (
   c.loop-listing.invariant.0,
   λ s shows.
       let Of : List Listing → Type 0 = λ listings. AreComments s c.args.unit listings c.loop-listing.comments.items in
-      subst Of (take_all c.loop-listing.listing-index c.args.listings.now (omega arith)) (c.loop-listing.invariant.1 s shows),
+      subst Of (take_all c.loop-listing.listing-index c.args.listings.now (omega arith))
+      (c.loop-listing.invariant.1 s shows),
 )

@@ -13,7 +13,8 @@ loop-init c =
 -- one empty text more keeps all texts empty
 pub loop-preserved : goal.loop-preserved
 loop-preserved c =
-    let Hold : List (Vec ℕ Global) → Type 0 = λ texts. (length texts ≡ c.loop.counter + 1) × HoldComments (λ token. []) texts in
+    let Hold : List (Vec ℕ Global) → Type 0 = λ texts. (length texts ≡ c.loop.counter + 1)
+    × HoldComments (λ token. []) texts in
     subst Hold (sym c.in_ok-push.ensures.items)
     (grind arith, hold_one_more c.loop.texts.items c.new.result c.new.ensures.items c.loop.invariant.1)
 

@@ -16,8 +16,10 @@ returns c = record {
       let old = c.args.out.now.items in
       let unit = unit_of c.in-Some.found in
       let Of : ℕ → Type 0 = λ number. AreComments s number listings c.in_ok-comments.comments.items in
-      let Hold : List (Vec ℕ Global) → Type 0 = λ comments. HoldComments (λ token. items_at s unit.lexed.unit token listings) comments in
-      let hold = subst Hold (sym c.deref.ensures.value) (subst Of c.unit.ensures (c.in_ok-comments.ensures.1 s shows)) in
+      let Hold : List (Vec ℕ Global) → Type 0 =
+      λ comments. HoldComments (λ token. items_at s unit.lexed.unit token listings) comments in
+      let hold =
+      subst Hold (sym c.deref.ensures.value) (subst Of c.unit.ensures (c.in_ok-comments.ensures.1 s shows)) in
       let text = annotated_in s (Some unit) listings in
       c.in_ok-put_pieces.ensures (λ token. items_at s unit.lexed.unit token listings) hold
       ∙ ap (λ (t : List ℕ). t ++ text) c.in_ok-put.ensures ∙ append_assoc old (line (codes "annotated")) text

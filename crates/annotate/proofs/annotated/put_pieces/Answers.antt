@@ -27,7 +27,8 @@ loop-n-preserved c =
     ≡ Some comment = slice_get_read c.args.comments.now (length c.args.comments.now) c.loop-n.n comment refl
     (omega arith) c.index-comments-n.is in
     let cut : c.saturating_sub-count.result
-    ≡ ends c.loop-n.n - at = c.saturating_sub-count.ensures ∙ ap (λ b. b - at) (c.place_behind.ensures ∙ ap ends c.new.ensures) in
+    ≡ ends c.loop-n.n - at =
+    c.saturating_sub-count.ensures ∙ ap (λ b. b - at) (c.place_behind.ensures ∙ ap ends c.new.ensures) in
     let rest : ℕ → List ℕ → List ℕ = λ k l. with_comments
     (pieces_from items ends (at + k) l (c.loop-n.n + 1) (count - (c.loop-n.n + 1))) in
     ap (λ (t : List ℕ). t ++ rest c.saturating_sub-count.result c.in_ok-left.left.now) c.in_ok-left.ensures.text
@@ -41,7 +42,6 @@ loop-n-preserved c =
 -- behind the last token the bytes that are left end the text of the unit
 pub returns : goal.returns
 returns c =
-    on_ok_weaker c.put.result (λ put items hold.
-    put ∙ last_piece items (behind c.args.tokens.now) c.loop-n.at c.loop-n.n
-    (length c.args.tokens.now.tokens) c.loop-n.left.now c.loop-n.out.items (omega arith) ∙ c.loop-n.invariant items hold)
-    c.put.ensures
+    on_ok_weaker c.put.result (λ put items hold. put ∙ last_piece items (behind c.args.tokens.now) c.loop-n.at
+    c.loop-n.n (length c.args.tokens.now.tokens) c.loop-n.left.now c.loop-n.out.items (omega arith)
+    ∙ c.loop-n.invariant items hold) c.put.ensures

@@ -6,4 +6,5 @@ use Rattle.annotate.proofs.judging.judge.Goals as goal
 pub returns : goal.returns
 returns c =
     IfOk-weaker c.judge_with.result _ _
-    (λ judged is s shows. judged_alone s c.args.graph.now judged.accepted judged.text.items (is s shows)) c.judge_with.ensures
+    (λ judged is s shows. judged_alone s c.args.graph.now judged.accepted judged.text.items
+    (is s shows)) c.judge_with.ensures

@@ -17,7 +17,8 @@ pub loop-var-preserved : goal.loop-var-preserved
 loop-var-preserved c =
     let lattices = c.args.scene.now.lattices.now in
     let listed = c.args.scene.now.listed.now in
-    let Of : List Listing → Type 0 = λ list. Listings lattices c.args.graph.now (take (c.loop-var.var-index + 1) listed) list in
+    let Of : List Listing → Type 0 =
+    λ list. Listings lattices c.args.graph.now (take (c.loop-var.var-index + 1) listed) list in
     subst Of (sym c.in_ok-list_var.ensures.added)
     (next_listed lattices c.args.graph.now listed c.loop-var.var-index c.var-item.result c.loop-var.list.items
     c.in_ok-list_var.ensures.here (omega arith) (sym c.var-item.is) c.loop-var.invariant
@@ -26,5 +27,6 @@ loop-var-preserved c =
 -- behind the last variable what is listed is that of all
 pub returns : goal.returns
 returns c =
-    let Of : List _ → Type 0 = λ vars. Listings c.args.scene.now.lattices.now c.args.graph.now vars c.loop-var.list.items in
+    let Of : List _ → Type 0 =
+    λ vars. Listings c.args.scene.now.lattices.now c.args.graph.now vars c.loop-var.list.items in
     subst Of (take_all c.loop-var.var-index c.args.scene.now.listed.now (omega arith)) c.loop-var.invariant

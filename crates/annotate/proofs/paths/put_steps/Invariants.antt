@@ -4,4 +4,5 @@ use Rattle.annotate.specs.Scenes.{Writes}
 use Rattle.annotate.proofs.paths.put_steps.Given as goal
 
 abbrev pub invariant-loop-step : goal.invariant-loop-step
-invariant-loop-step l = Writes l.scene l.fn.out.items l.out.items (λ s. steps_text s l.graph (take l.step-index l.steps))
+invariant-loop-step l =
+    Writes l.scene l.fn.out.items l.out.items (λ s. steps_text s l.graph (take l.step-index l.steps))

@@ -27,5 +27,6 @@ returns c =
     (c.in_ok-put_annotation.ensures.is s shows
     ∙ ap (λ (t : List ℕ). t ++ annotation s c.args.unit c.deref-2.result.now) (c.in_ok-put_accepted.ensures.is s shows
     ∙ ap (λ (t : List ℕ). t ++ accepted_text s c.deref.result.now) c.new-text.ensures.items)
-    ∙ ap (λ (l : List Listing). accepted_text s l ++ annotation s c.args.unit c.deref-2.result.now) c.deref.ensures.value
+    ∙ ap (λ (l : List Listing). accepted_text s l
+    ++ annotation s c.args.unit c.deref-2.result.now) c.deref.ensures.value
     ∙ ap (λ (l : List Listing). accepted_text s list ++ annotation s c.args.unit l) c.deref-2.ensures.value)

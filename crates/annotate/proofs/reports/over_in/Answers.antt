@@ -1,7 +1,8 @@
 use Rattle.std.proofs.Common.{◌≡◌, ℕ, List, true, false, refl, sym, ◌∙◌, ap, slice_get, Some, subst}
 use Rattle.flow_graph.specs.Unfolding.{IsExceeded, NamesElementsIn}
 use Rattle.lattice_core.specs.View.{LatticeView}
-use Rattle.annotate.proofs.LatticeLemmas.{same_over, order_there}
+use Rattle.lattice_core.proofs.Orders.{order_there}
+use Rattle.annotate.proofs.LatticeLemmas.{same_over}
 use Rattle.annotate.proofs.reports.over_in.Goals as goal
 
 pub exceeded-requires-clause-solved : goal.exceeded-requires-clause-solved
@@ -25,7 +26,8 @@ returns-in-Some-exceeded-clause-found c =
       there = ap (slice_get c.args.scene.now.lattices.now) own.lattice_is ∙ c.get-named.ensures;
       summarised = own.summarised;
       solved = own.solved;
-      named = subst In (sym own.lattice_is) (c.requires.named c.in-Some.lattice c.get-named.result.now c.get-named.ensures);
+      named =
+          subst In (sym own.lattice_is) (c.requires.named c.in-Some.lattice c.get-named.result.now c.get-named.ensures);
       elem = _;
       exceeds = c.in-Some-exceeded.ensures.element;
     }
@@ -54,7 +56,8 @@ returns-in-None-clause-none c =
     let there : slice_get s.lattices c.in-Some.lattice ≡ Some c.get-named.result.now =
     ap (λ (ls : List LatticeView). slice_get ls c.in-Some.lattice) shows.lattices ∙ c.get-named.ensures in
     let at = order_there s.lattices c.in-Some.lattice c.get-named.result.now there in
-    let exceeded = same_over s c.args.graph.now c.args.number c.constraint.result c.in-Some.ensures.0 c.in-Some.lattice c.in-Some.ensures.1
-    c.get-named.result.now.order c.constraint.ensures.there c.in-Some.ensures.2 at over in
-    let found : false ≡ true = (c.in-None.ensures.exceeded c.requires.owned).1 (subst In (sym own.lattice_is) exceeded) in
+    let exceeded = same_over s c.args.graph.now c.args.number c.constraint.result c.in-Some.ensures.0 c.in-Some.lattice
+    c.in-Some.ensures.1 c.get-named.result.now.order c.constraint.ensures.there c.in-Some.ensures.2 at over in
+    let found : false ≡ true =
+    (c.in-None.ensures.exceeded c.requires.owned).1 (subst In (sym own.lattice_is) exceeded) in
     absurd cc

@@ -13,5 +13,9 @@ pub returns-in-Some-clause-error : goal.returns-in-Some-clause-error
 returns-in-Some-clause-error c = on_ok c.put_exceeded.result c.put_exceeded.ensures.error (λ put. record {
   part = λ s shows.
       let error = put.part s shows in
-      record { text = error.text; added = error.added; is = Exceeded error.text (c.in-Some.ensures.over s shows) error.is };
+      record {
+        text = error.text;
+        added = error.added;
+        is = Exceeded error.text (c.in-Some.ensures.over s shows) error.is;
+      };
 })

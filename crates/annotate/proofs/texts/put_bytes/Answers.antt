@@ -12,12 +12,15 @@ returns-in-Some c =
     let lent = c.args.scene.now in
     on_ok c.put.result c.put.ensures (λ put.
     same_text (λ s. bytes_in (unit_in s.units c.args.unit) c.args.token)
-    (fixed lent c.args.out.now.items c.put.new.out.items (bytes_in (Some (unit_of c.in-Some.found)) c.args.token) (put ∙ ap (λ (t : List ℕ). c.args.out.now.items ++ t) c.bytes_of.ensures))
-    (λ s shows. ap (λ (u : Option UnitText). bytes_in u c.args.token) (unit_is lent s shows c.args.unit c.unit_at.result (Some c.in-Some.found) c.in-Some.is (c.unit_at.ensures shows.apart))))
+    (fixed lent c.args.out.now.items c.put.new.out.items (bytes_in (Some (unit_of c.in-Some.found)) c.args.token)
+    (put ∙ ap (λ (t : List ℕ). c.args.out.now.items ++ t) c.bytes_of.ensures))
+    (λ s shows. ap (λ (u : Option UnitText). bytes_in u c.args.token) (unit_is lent s shows c.args.unit c.unit_at.result
+    (Some c.in-Some.found) c.in-Some.is (c.unit_at.ensures shows.apart))))
 
 -- a token of a unit that is not there has no bytes
 pub returns-in-None : goal.returns-in-None
 returns-in-None c =
     let lent = c.args.scene.now in
     nothing lent c.args.out.now.items (λ s. bytes_in (unit_in s.units c.args.unit) c.args.token)
-    (λ s shows. ap (λ (u : Option UnitText). bytes_in u c.args.token) (unit_is lent s shows c.args.unit c.unit_at.result None c.in-None.is (c.unit_at.ensures shows.apart)))
+    (λ s shows. ap (λ (u : Option UnitText). bytes_in u c.args.token)
+    (unit_is lent s shows c.args.unit c.unit_at.result None c.in-None.is (c.unit_at.ensures shows.apart)))

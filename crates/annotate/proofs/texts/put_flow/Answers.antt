@@ -7,5 +7,6 @@ pub returns : goal.returns
 returns c =
     let lent = c.args.scene.now in
     on_ok c.put_var-2.result c.put_var-2.ensures (λ put.
-    then_both (then_both (then_both (fixed lent c.args.out.now.items c.put.new.out.items c.args.word.now c.in_ok-put.ensures) c.in_ok-put_var.ensures)
+    then_both (then_both (then_both
+    (fixed lent c.args.out.now.items c.put.new.out.items c.args.word.now c.in_ok-put.ensures) c.in_ok-put_var.ensures)
     (fixed lent c.put_var.new.out.items c.put-2.new.out.items (codes " to ") c.in_ok-put-2.ensures)) put)

@@ -6,4 +6,5 @@ use Rattle.annotate.proofs.texts.put_name.Goals as goal
 pub returns : goal.returns
 returns c =
     on_ok c.put_place.result c.put_place.ensures (λ put.
-    then_both (then_both c.in_ok-put_bytes.ensures (fixed c.args.scene.now c.put_bytes.new.out.items c.put.new.out.items (codes "@") c.in_ok-put.ensures)) put)
+    then_both (then_both c.in_ok-put_bytes.ensures
+    (fixed c.args.scene.now c.put_bytes.new.out.items c.put.new.out.items (codes "@") c.in_ok-put.ensures)) put)

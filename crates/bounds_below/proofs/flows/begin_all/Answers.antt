@@ -24,7 +24,8 @@ loop-n-preserved c =
         | inl earlier ↦ step.gains.kept v b (so_far.begun n v b earlier st)
         | inr last ↦
             let is : c.new.result ≡ n = omega (arith, lt, last, c.new.ensures) in
-            step.begun v b (subst (λ (k : ℕ). Stands c.args.flows.now.graph.now c.args.flows.now.lattice k (Bound v c.args.flows.now.lattice b)) (sym is) st)
+            step.begun v b (subst (λ (k : ℕ). Stands c.args.flows.now.graph.now c.args.flows.now.lattice k
+            (Bound v c.args.flows.now.lattice b)) (sym is) st)
       ];
     }
 

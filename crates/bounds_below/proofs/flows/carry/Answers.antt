@@ -9,7 +9,8 @@ use Rattle.bounds_below.proofs.Items.{read_item, each_item}
 use Rattle.bounds_below.proofs.flows.carry.Goals as goal
 
 pub loop-edge-init : goal.loop-edge-init
-loop-edge-init c = record { gains = gains_same _; sound = λ lead all. all; carried = λ k lt n. absurd (omega (arith, lt)) }
+loop-edge-init c =
+    record { gains = gains_same _; sound = λ lead all. all; carried = λ k lt n. absurd (omega (arith, lt)) }
 
 pub follow-requires-clause-ready : goal.follow-requires-clause-ready
 follow-requires-clause-ready c = system_same c.args.flows.now _ _ c.loop-edge.invariant.gains.size c.requires
@@ -18,7 +19,8 @@ follow-requires-clause-ready c = system_same c.args.flows.now _ _ c.loop-edge.in
 pub follow-requires-clause-leads : goal.follow-requires-clause-leads
 follow-requires-clause-leads c =
     (c.requires.indexed.into c.args.at).only c.edge-item.result
-    (subst (λ (row : List ℕ). Contains row c.edge-item.result) c.into-edge-items.ensures (c.loop-edge.edge-index, c.loop-edge-test.true, sym c.edge-item.is))
+    (subst (λ (row : List ℕ). Contains row c.edge-item.result) c.into-edge-items.ensures
+    (c.loop-edge.edge-index, c.loop-edge-test.true, sym c.edge-item.is))
 
 -- following one more constraint back keeps those before it carried
 pub loop-edge-preserved : goal.loop-edge-preserved
@@ -35,16 +37,20 @@ loop-edge-preserved c =
       gains = gains_then c.args.work.now c.loop-edge.work c.follow.new.work so_far.gains step.gains;
       sound = λ lead all. step.sound lead (so_far.sound lead all);
       carried = λ k lt n. elim (cases_lt k c.loop-edge.edge-index) [
-        | inl earlier ↦ carried_on sys lattice rows had c.loop-edge.work.sets.items c.follow.new.work.sets.items c.args.at _ step.gains.kept (so_far.carried k earlier n)
+        | inl earlier ↦ carried_on sys lattice rows had c.loop-edge.work.sets.items c.follow.new.work.sets.items
+            c.args.at _ step.gains.kept (so_far.carried k earlier n)
         | inr last ↦
             let is : c.loop-edge.edge-index ≡ k = omega (arith, lt, last) in
-            let held = read_item Is items c.loop-edge.edge-index c.edge-item.result c.loop-edge-test.true c.edge-item.is step.carried n in
+            let held = read_item Is items c.loop-edge.edge-index c.edge-item.result c.loop-edge-test.true c.edge-item.is
+            step.carried n in
             subst (λ (i : ℕ). Is (get_or items i n)) is held
       ];
     }
 
 pub returns-clause-sound : goal.returns-clause-sound
-returns-clause-sound c = λ all. c.loop-edge.invariant.sound (λ b has. all c.args.at b (subst (λ (set : ℕ). bit_at set b ≡ 1) c.set-had.ensures has)) all
+returns-clause-sound c =
+    λ all. c.loop-edge.invariant.sound
+    (λ b has. all c.args.at b (subst (λ (set : ℕ). bit_at set b ≡ 1) c.set-had.ensures has)) all
 
 -- each constraint is carried: it is one of the row, or it does not lead to the variable
 pub returns-clause-carried : goal.returns-clause-carried
@@ -56,5 +62,6 @@ returns-clause-carried c = λ n.
     let Is : ℕ → Type 0 = λ n. IsCarried sys lattice rows had c.loop-edge.work.sets.items c.args.at n in
     subst (λ (set : ℕ). IsCarried sys lattice rows set c.loop-edge.work.sets.items c.args.at n) c.set-had.ensures
     (carried_elsewhere sys lattice rows had c.loop-edge.work.sets.items c.args.at n (λ keyed.
-    each_item Is c.into-edge-items.result.now (λ k lt. c.loop-edge.invariant.carried k (omega (arith, lt, c.loop-edge-test.false)))
-    n (subst (λ (row : List ℕ). Contains row n) (sym c.into-edge-items.ensures) ((c.requires.indexed.into c.args.at).all n keyed))))
+    each_item Is c.into-edge-items.result.now (λ k lt. c.loop-edge.invariant.carried k
+    (omega (arith, lt, c.loop-edge-test.false))) n (subst (λ (row : List ℕ). Contains row n)
+    (sym c.into-edge-items.ensures) ((c.requires.indexed.into c.args.at).all n keyed))))

@@ -10,5 +10,6 @@ invariant-loop-edge l = record {
       → AreSound l.flows.graph.now l.flows.lattice l.fn.work.sets.items →
       AreSound l.flows.graph.now l.flows.lattice l.work.sets.items;
   carried : (k : ℕ) → k < l.edge-index → (n : ℕ) →
-      IsCarried l.flows.graph.now l.flows.lattice l.flows.summaries.now l.had l.work.sets.items l.at (get_or l.edge-items k n);
+      IsCarried l.flows.graph.now l.flows.lattice l.flows.summaries.now l.had l.work.sets.items l.at
+      (get_or l.edge-items k n);
 }

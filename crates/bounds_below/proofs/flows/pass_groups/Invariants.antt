@@ -10,5 +10,6 @@ invariant-loop-other l = record {
       → AreSound l.flows.graph.now l.flows.lattice l.fn.work.sets.items →
       AreSound l.flows.graph.now l.flows.lattice l.work.sets.items;
   passed : (k : ℕ) → k < l.other-index → (n : ℕ) →
-      IsPassed l.flows.graph.now l.flows.lattice l.flows.summaries.now l.had l.work.sets.items l.back.site l.back.from (get_or l.other-items k n);
+      IsPassed l.flows.graph.now l.flows.lattice l.flows.summaries.now l.had l.work.sets.items l.back.site l.back.from
+      (get_or l.other-items k n);
 }

@@ -9,4 +9,5 @@ returns-clause-made c =
     let rows = c.pointer.new.self in
     c.in_ok-at.ensures.made (type_of rows) (λ n lt. refl)
     ∙ ap (λ ws. pointer ws (type_of rows c.in_ok-inside.inside)) c.new.ensures.items
-    ∙ ap (pointer []) (c.in_ok-at.ensures.grown.keeps c.in_ok-inside.inside c.in_ok-inside.ensures.low ∙ c.in_ok-inside.ensures.made)
+    ∙ ap (pointer [])
+    (c.in_ok-at.ensures.grown.keeps c.in_ok-inside.inside c.in_ok-inside.ensures.low ∙ c.in_ok-inside.ensures.made)

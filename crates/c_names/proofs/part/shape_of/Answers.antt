@@ -14,8 +14,7 @@ loop-op-preserved c =
     let s = names_in rows c.args.names.now in
     let test = c.loop-op-test.true in
     let within : c.loop-op.op-index < length c.args.ops.now = omega arith in
-    shapes_on u s c.args.ops.now c.loop-op.op-index c.op-item.result (state_in rows c.loop-op.stacks) (state_in rows c.step.new.stacks)
-    c.op-item.is within
-    (subst (λ rows. state_in rows c.step.new.stacks
-    ≡ step u (names_in rows c.args.names.now) (state_in rows c.loop-op.stacks) c.op-item.result) c.table.ensures c.in_ok-step.ensures)
-    ∙ c.loop-op.invariant
+    shapes_on u s c.args.ops.now c.loop-op.op-index c.op-item.result (state_in rows c.loop-op.stacks)
+    (state_in rows c.step.new.stacks) c.op-item.is within
+    (subst (λ rows. state_in rows c.step.new.stacks ≡ step u (names_in rows c.args.names.now)
+    (state_in rows c.loop-op.stacks) c.op-item.result) c.table.ensures c.in_ok-step.ensures) ∙ c.loop-op.invariant

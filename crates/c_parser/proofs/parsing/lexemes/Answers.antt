@@ -6,4 +6,5 @@ use Rattle.c_parser.proofs.parsing.lexemes.Goals as goal
 pub returns : goal.returns
 returns c =
     c.loop-number.invariant
-    ∙ all_lexemes c.args.tokens.now.tokens c.loop-number.number (omega (arith, c.loop-number-test.false, c.len-number-end.ensures))
+    ∙ all_lexemes c.args.tokens.now.tokens c.loop-number.number
+    (omega (arith, c.loop-number-test.false, c.len-number-end.ensures))

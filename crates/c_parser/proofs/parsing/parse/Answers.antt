@@ -21,7 +21,8 @@ same_items wide read items others one other = ap (items_in items) (sym one ∙ o
 pub returns-in-Ok-unit-clause-unit : goal.returns-in-Ok-unit-clause-unit
 returns-in-Ok-unit-clause-unit c =
     let same : c.as_slice.result.now ≡ lexemes_of c.args.tokens.now = c.as_slice.ensures.value ∙ c.in-Ok.ensures in
-    c.unit_is_well_formed.ensures c.args.tokens.now.wide (lexemes_of c.args.tokens.now) (numbered_from_zero c.args.tokens.now.tokens) (unit_found c.args.tokens.now.wide (items_of c.in-Ok-unit.found))
+    c.unit_is_well_formed.ensures c.args.tokens.now.wide (lexemes_of c.args.tokens.now)
+    (numbered_from_zero c.args.tokens.now.tokens) (unit_found c.args.tokens.now.wide (items_of c.in-Ok-unit.found))
     (ap (unit_at c.args.tokens.now.wide) (sym same) ∙ rw c.is_wide.ensures at c.in-Ok-unit.ensures)
 
 -- where a unit is read from the lexemes, it is the only well-formed one of the tokens
@@ -29,11 +30,14 @@ pub returns-in-Ok-unit-clause-only : goal.returns-in-Ok-unit-clause-only
 returns-in-Ok-unit-clause-only c =
     let same : c.as_slice.result.now ≡ lexemes_of c.args.tokens.now = c.as_slice.ensures.value ∙ c.in-Ok.ensures in
     λ items is.
-    let again = c.well_formed_is_read.ensures c.args.tokens.now.wide (lexemes_of c.args.tokens.now) (numbered_from_zero c.args.tokens.now.tokens) items is in
-    same_items c.args.tokens.now.wide _ (items_of c.in-Ok-unit.found) items (rw c.is_wide.ensures at c.in-Ok-unit.ensures) (ap (unit_at c.args.tokens.now.wide) same ∙ again)
+    let again = c.well_formed_is_read.ensures c.args.tokens.now.wide (lexemes_of c.args.tokens.now)
+    (numbered_from_zero c.args.tokens.now.tokens) items is in
+    same_items c.args.tokens.now.wide _ (items_of c.in-Ok-unit.found) items
+    (rw c.is_wide.ensures at c.in-Ok-unit.ensures) (ap (unit_at c.args.tokens.now.wide) same ∙ again)
 
 -- an error of `parse` is that with which the reader refuses the tokens' lexemes
 pub refusal-requires : goal.refusal-requires
 refusal-requires c =
     let same : c.as_slice.result.now ≡ lexemes_of c.args.tokens.now = c.as_slice.ensures.value ∙ c.in-Ok.ensures in
-    subst (λ (all : List Lexeme). Fails c.in-Err.error (unit_at c.args.tokens.now.wide all)) same (rw c.is_wide.ensures at c.in-Err.ensures)
+    subst (λ (all : List Lexeme). Fails c.in-Err.error (unit_at c.args.tokens.now.wide all)) same
+    (rw c.is_wide.ensures at c.in-Err.ensures)

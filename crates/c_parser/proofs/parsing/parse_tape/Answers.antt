@@ -15,10 +15,12 @@ returns-in-Ok-unit_tape-clause-tape c =
     let same : c.as_slice.result.now ≡ lexemes_of c.args.tokens.now = c.as_slice.ensures.value ∙ c.in-Ok.ensures in
     let wide = c.args.tokens.now.wide in
     let all = lexemes_of c.args.tokens.now in
-    let found = whole wide (unit_at wide all) _ (sym (taped_unit wide all) ∙ ap (tape_at wide) (sym same) ∙ rw c.is_wide.ensures at c.in-Ok-unit_tape.ensures) in
+    let found = whole wide (unit_at wide all) _
+    (sym (taped_unit wide all) ∙ ap (tape_at wide) (sym same) ∙ rw c.is_wide.ensures at c.in-Ok-unit_tape.ensures) in
     record {
       items = found.0;
-      formed = c.unit_is_well_formed.ensures wide all (numbered_from_zero c.args.tokens.now.tokens) (unit_found wide found.0) found.1;
+      formed = c.unit_is_well_formed.ensures wide all (numbered_from_zero c.args.tokens.now.tokens)
+          (unit_found wide found.0) found.1;
       taped = found.2;
     }
 
@@ -27,4 +29,5 @@ pub refusal-requires : goal.refusal-requires
 refusal-requires c =
     let same : c.as_slice.result.now ≡ lexemes_of c.args.tokens.now = c.as_slice.ensures.value ∙ c.in-Ok.ensures in
     fails_alike c.args.tokens.now.wide c.in-Err.error (lexemes_of c.args.tokens.now)
-    (subst (λ (all : List Lexeme). Fails c.in-Err.error (tape_at c.args.tokens.now.wide all)) same (rw c.is_wide.ensures at c.in-Err.ensures))
+    (subst (λ (all : List Lexeme). Fails c.in-Err.error (tape_at c.args.tokens.now.wide all)) same
+    (rw c.is_wide.ensures at c.in-Err.ensures))

@@ -5,4 +5,5 @@ use Rattle.c_parser.proofs.taping.tapes_step.Goals as goal
 
 pub returns : goal.returns
 returns c =
-    is_loop (tape_turn c.args.depth c.args.room) (tape_takes c.args.depth c.args.room (c.turns_take_tokens.ensures.items c.args.room))
+    is_loop (tape_turn c.args.depth c.args.room)
+    (tape_takes c.args.depth c.args.room (c.turns_take_tokens.ensures.items c.args.room))

@@ -12,12 +12,16 @@ pub returns-in-ExprStmt : goal.returns-in-ExprStmt
 returns-in-ExprStmt c = let s = c.in-ExprStmt in sym (ap stmt_of s.is ∙ expr_stmt_is s.value s.semi)
 
 pub returns-in-If : goal.returns-in-If
-returns-in-If c = let s = c.in-If in sym (ap stmt_of s.is ∙ if_is s.keyword s.«open» s.condition s.close s.body s.otherwise)
+returns-in-If c =
+    let s = c.in-If in
+    sym (ap stmt_of s.is ∙ if_is s.keyword s.«open» s.condition s.close s.body s.otherwise)
 
+-- the form of a `for` shows its start, condition, step and body
 pub returns-in-For : goal.returns-in-For
 returns-in-For c =
     let s = c.in-For in
-    ap (λ (start : tree.ForStart). tree.for_stmt s.keyword s.«open» start (some_expr_from s.condition) s.semi (some_expr_from s.step) s.close (stmt_of s.body.value)) c.start_shape.ensures
+    ap (λ (start : tree.ForStart). tree.for_stmt s.keyword s.«open» start (some_expr_from s.condition) s.semi
+    (some_expr_from s.step) s.close (stmt_of s.body.value)) c.start_shape.ensures
     ∙ sym (ap stmt_of s.is ∙ for_is s.keyword s.«open» s.start s.condition s.semi s.step s.close s.body)
 
 pub returns-in-Return : goal.returns-in-Return

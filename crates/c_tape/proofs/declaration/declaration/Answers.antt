@@ -5,4 +5,6 @@ use Rattle.c_tape.proofs.TodoLemmas.{as_tree}
 use Rattle.c_tape.proofs.declaration.declaration.Goals as goal
 
 pub returns : goal.returns
-returns c = as_tree (λ t. OnOk c.declaration_parts.result (c.declaration_parts.new.todo ≡ declaration_tape t ++ c.args.todo.now)) _ _ (declaration_is c.args.it.now) (search rules)
+returns c = as_tree
+    (λ t. OnOk c.declaration_parts.result (c.declaration_parts.new.todo ≡ declaration_tape t ++ c.args.todo.now)) _ _
+    (declaration_is c.args.it.now) (search rules)

@@ -6,8 +6,11 @@ use Rattle.c_tape.proofs.TodoLemmas.{as_tree}
 use Rattle.c_tape.proofs.forms.association.Goals as goal
 
 pub returns-in-Typed : goal.returns-in-Typed
-returns-in-Typed c = as_tree (λ t. OnOk c.typed_association.result (c.typed_association.new.todo ≡ assoc_tape t ++ c.args.todo.now)) _ _ (ap assoc_of c.in-Typed.is ∙ typed_assoc_is c.in-Typed.t c.in-Typed.colon c.in-Typed.value) (search rules)
+returns-in-Typed c =
+    as_tree (λ t. OnOk c.typed_association.result (c.typed_association.new.todo ≡ assoc_tape t ++ c.args.todo.now)) _ _
+    (ap assoc_of c.in-Typed.is ∙ typed_assoc_is c.in-Typed.t c.in-Typed.colon c.in-Typed.value) (search rules)
 
 pub returns-in-Default : goal.returns-in-Default
 returns-in-Default c =
-    as_tree (λ t. OnOk c.default_association.result (c.default_association.new.todo ≡ assoc_tape t ++ c.args.todo.now)) _ _ (ap assoc_of c.in-Default.is) (search rules)
+    as_tree (λ t. OnOk c.default_association.result
+    (c.default_association.new.todo ≡ assoc_tape t ++ c.args.todo.now)) _ _ (ap assoc_of c.in-Default.is) (search rules)

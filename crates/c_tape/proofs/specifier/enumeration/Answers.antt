@@ -5,4 +5,6 @@ use Rattle.c_tape.proofs.TodoLemmas.{as_tree}
 use Rattle.c_tape.proofs.specifier.enumeration.Goals as goal
 
 pub returns : goal.returns
-returns c = as_tree (λ t. OnOk c.enum_parts.result (c.enum_parts.new.todo ≡ enum_tape t ++ c.args.todo.now)) _ _ (enum_is c.args.it.now) (search rules)
+returns c =
+    as_tree (λ t. OnOk c.enum_parts.result (c.enum_parts.new.todo ≡ enum_tape t ++ c.args.todo.now)) _ _
+    (enum_is c.args.it.now) (search rules)

@@ -6,7 +6,11 @@ use Rattle.c_tape.proofs.TodoLemmas.{as_tree}
 use Rattle.c_tape.proofs.specifier.member_declarator.Goals as goal
 
 pub returns-in-Named : goal.returns-in-Named
-returns-in-Named c = as_tree (λ t. OnOk c.named_member.result (c.named_member.new.todo ≡ mem_declr_tape t ++ c.args.todo.now)) _ _ (ap mem_declr_of c.in-Named.is ∙ named_is c.in-Named.declr c.in-Named.width c.in-Named.attrs) (search rules)
+returns-in-Named c =
+    as_tree (λ t. OnOk c.named_member.result (c.named_member.new.todo ≡ mem_declr_tape t ++ c.args.todo.now)) _ _
+    (ap mem_declr_of c.in-Named.is ∙ named_is c.in-Named.declr c.in-Named.width c.in-Named.attrs) (search rules)
 
 pub returns-in-Unnamed : goal.returns-in-Unnamed
-returns-in-Unnamed c = as_tree (λ t. OnOk c.quiet.result (c.quiet.new.self ≡ mem_declr_tape t ++ c.args.todo.now)) _ _ (ap mem_declr_of c.in-Unnamed.is) (search rules)
+returns-in-Unnamed c =
+    as_tree (λ t. OnOk c.quiet.result (c.quiet.new.self ≡ mem_declr_tape t ++ c.args.todo.now)) _ _
+    (ap mem_declr_of c.in-Unnamed.is) (search rules)

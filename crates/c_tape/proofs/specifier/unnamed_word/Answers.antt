@@ -6,4 +6,6 @@ use Rattle.c_tape.proofs.TodoLemmas.{as_tree}
 use Rattle.c_tape.proofs.specifier.unnamed_word.Goals as goal
 
 pub returns-in-Struct : goal.returns-in-Struct
-returns-in-Struct c = as_tree (λ t. OnOk c.unnamed_struct.result (c.unnamed_struct.new.todo ≡ unnamed_word_tape t ++ c.args.todo.now)) _ _ (ap spec_word_of c.in-Struct.is ∙ struct_is c.in-Struct.it) (search rules)
+returns-in-Struct c =
+    as_tree (λ t. OnOk c.unnamed_struct.result (c.unnamed_struct.new.todo ≡ unnamed_word_tape t ++ c.args.todo.now)) _ _
+    (ap spec_word_of c.in-Struct.is ∙ struct_is c.in-Struct.it) (search rules)

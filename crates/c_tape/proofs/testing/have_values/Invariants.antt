@@ -4,4 +4,5 @@ use Rattle.c_tape.specs.Tests.{have_values}
 use Rattle.c_tape.proofs.testing.have_values.Given as goal
 
 abbrev pub invariant-loop-it : goal.invariant-loop-it
-invariant-loop-it l = have_values (init_declrs_from (drop l.it-index l.declrs)) ≡ have_values (init_declrs_from l.declrs)
+invariant-loop-it l =
+    have_values (init_declrs_from (drop l.it-index l.declrs)) ≡ have_values (init_declrs_from l.declrs)

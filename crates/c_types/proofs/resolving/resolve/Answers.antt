@@ -17,16 +17,20 @@ units_taped c = c.in-Ok.ensures
 
 pub returns-clause-none : goal.returns-clause-none
 returns-clause-none c =
-    IfOk-weaker c.resolve_tapes.result _ _ (λ it is. is (sources_of c.args.sources.now) (taped c)) c.resolve_tapes.ensures.none
+    IfOk-weaker c.resolve_tapes.result _ _
+    (λ it is. is (sources_of c.args.sources.now) (taped c)) c.resolve_tapes.ensures.none
 
 pub returns-clause-names : goal.returns-clause-names
 returns-clause-names c =
-    IfOk-weaker c.resolve_tapes.result _ _ (λ it is. is (sources_of c.args.sources.now) (taped c)) c.resolve_tapes.ensures.names
+    IfOk-weaker c.resolve_tapes.result _ _
+    (λ it is. is (sources_of c.args.sources.now) (taped c)) c.resolve_tapes.ensures.names
 
 pub returns-clause-tapes : goal.returns-clause-tapes
 returns-clause-tapes c =
-    IfOk-weaker c.resolve_tapes.result _ _ (λ it is. let same : tapes_of it.units ≡ tapes_of c.in-Ok.units.items = ap tapes_of is in same ∙ units_taped c) c.resolve_tapes.ensures.tapes
+    IfOk-weaker c.resolve_tapes.result _ _ (λ it is. let same : tapes_of it.units ≡ tapes_of c.in-Ok.units.items =
+    ap tapes_of is in same ∙ units_taped c) c.resolve_tapes.ensures.tapes
 
 pub returns-clause-first : goal.returns-clause-first
 returns-clause-first c =
-    IfErr-weaker c.resolve_tapes.result _ _ (λ fault is. is (sources_of c.args.sources.now) (taped c)) c.resolve_tapes.ensures.first
+    IfErr-weaker c.resolve_tapes.result _ _
+    (λ fault is. is (sources_of c.args.sources.now) (taped c)) c.resolve_tapes.ensures.first

@@ -32,10 +32,8 @@ loop-number-preserved c =
           c.in_ok-go_on.ensures not_last was.before (was.names within);
       rest =
           ap (λ (us : List UnitTape). tapes_of us ++ tapes_from (was.before ++ it.tokens ∷ []) (drop (i + 1) sources))
-          c.in_ok-push.ensures.items
-          ∙ tapes_on sources i it was.before c.loop-number.units.items c.in_ok-unit.unit c.index-sources-number.is within
-          (c.in_ok-unit.ensures was.before (was.names within))
-          ∙ was.rest;
+          c.in_ok-push.ensures.items ∙ tapes_on sources i it was.before c.loop-number.units.items c.in_ok-unit.unit
+          c.index-sources-number.is within (c.in_ok-unit.ensures was.before (was.names within)) ∙ was.rest;
     }
 
 -- once no source is left, the tapes made are those of all sources

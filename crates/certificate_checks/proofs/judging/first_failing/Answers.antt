@@ -1,10 +1,11 @@
 use Rattle.std.proofs.Common.{◌≡◌, ℕ, Some, slice_get, refl, sym, ◌∙◌, subst, arith}
 use Rattle.lattice_core.specs.View.{orders_of}
+use Rattle.lattice_core.proofs.Orders.{order_there, all_orders}
 use Rattle.flow_graph.specs.Unfolding.{IsAcceptedIn}
 use Rattle.certificate_laws.specs.Certificates.{IsLowestFailing, Obeys}
 use Rattle.closure_check.specs.Parts.{certificate_of}
 use Rattle.flow_laws.proofs.Leads.{names_in_each}
-use Rattle.certificate_checks.proofs.Checked.{order_there, all_orders, as_many, part_of, next_first, all_obey, all_accepted}
+use Rattle.certificate_checks.proofs.Checked.{as_many, part_of, next_first, all_obey, all_accepted}
 use Rattle.certificate_checks.proofs.judging.first_failing.Goals as goal
 
 -- there is a certificate for each lattice
@@ -20,13 +21,15 @@ part_of-requires c =
 -- the graph names elements of this lattice alone, as it does of each
 pub check_part-requires-clause-named : goal.check_part-requires-clause-named
 check_part-requires-clause-named c =
-    names_in_each c.args.graph.now (orders_of c.args.lattices.now) c.new-lattice.result c.get.result.now.order c.requires.named
+    names_in_each c.args.graph.now
+    (orders_of c.args.lattices.now) c.new-lattice.result c.get.result.now.order c.requires.named
     (order_there c.args.lattices.now c.new-lattice.result c.get.result.now c.get.ensures)
 
 -- the certificate of this lattice is a part of the graph, as each is that was read
 pub check_part-requires-clause-part : goal.check_part-requires-clause-part
 check_part-requires-clause-part c =
-    part_of c.args.graph.now (orders_of c.args.lattices.now) c.args.parts.now c.new-lattice.result c.get.result.now.order c.part_of.result.now c.requires.parts
+    part_of c.args.graph.now (orders_of c.args.lattices.now) c.args.parts.now c.new-lattice.result
+    c.get.result.now.order c.part_of.result.now c.requires.parts
     (order_there c.args.lattices.now c.new-lattice.result c.get.result.now c.get.ensures) c.part_of.ensures
 
 -- a lattice that breaks a rule, behind such as obey them, is the first that fails
@@ -62,7 +65,8 @@ loop-at-preserved c =
     next_first sys (orders_of c.args.lattices.now) c.args.parts.now c.loop-at.at order part
     (subst At same (order_there c.args.lattices.now c.new-lattice.result c.get.result.now c.get.ensures))
     (subst Of same c.part_of.ensures)
-    (subst Own same (c.in_default.ensures.holds.0 refl)) (subst In same c.in_default.ensures.accepted) c.loop-at.invariant
+    (subst Own same (c.in_default.ensures.holds.0 refl))
+    (subst In same c.in_default.ensures.accepted) c.loop-at.invariant
 
 -- when no lattice is left, each certificate obeys the rules
 pub returns-clause-first : goal.returns-clause-first
@@ -71,7 +75,8 @@ returns-clause-first c =
     let count = c.len-at-end.ensures.count in
     let past = c.loop-at-test.false in
     let most = c.loop-at.auto.at-end in
-    all_obey c.args.graph.now (orders_of c.args.lattices.now) c.args.parts.now c.loop-at.at (omega (arith, all, count, past, most)) c.loop-at.invariant
+    all_obey c.args.graph.now (orders_of c.args.lattices.now) c.args.parts.now c.loop-at.at
+    (omega (arith, all, count, past, most)) c.loop-at.invariant
 
 -- where no certificate breaks a rule, the program is accepted in all lattices
 pub returns-clause-accepted : goal.returns-clause-accepted
@@ -80,4 +85,5 @@ returns-clause-accepted c = λ none.
     let count = c.len-at-end.ensures.count in
     let past = c.loop-at-test.false in
     let most = c.loop-at.auto.at-end in
-    all_accepted c.args.graph.now (orders_of c.args.lattices.now) c.args.parts.now c.loop-at.at (omega (arith, all, count, past, most)) c.loop-at.invariant
+    all_accepted c.args.graph.now (orders_of c.args.lattices.now) c.args.parts.now c.loop-at.at
+    (omega (arith, all, count, past, most)) c.loop-at.invariant

@@ -10,16 +10,20 @@ use Rattle.certificate_checks.proofs.judging.judge_certificate.Goals as goal
 pub returns-in-Err-clause-is : goal.returns-in-Err-clause-is
 returns-in-Err-clause-is c =
     IfOk-weaker c.unread.result _ _
-    (λ verdict is. fault_comes c.args.graph.now (orders_of c.args.lattices.now) c.args.bytes.now c.in-Err.fault verdict is c.in-Err.ensures.fault) c.unread.ensures
+    (λ verdict is. fault_comes c.args.graph.now
+    (orders_of c.args.lattices.now) c.args.bytes.now c.in-Err.fault verdict is c.in-Err.ensures.fault) c.unread.ensures
 
 -- a text that reads and breaks no rule comes to `Holds`
 pub returns-in-None-clause-is : goal.returns-in-None-clause-is
 returns-in-None-clause-is c =
-    let All : List Part → Type 0 = λ parts. (n : ℕ) → ObeysAt c.args.graph.now (orders_of c.args.lattices.now) parts n in
+    let All : List Part → Type 0 = λ parts. (n : ℕ)
+    → ObeysAt c.args.graph.now (orders_of c.args.lattices.now) parts n in
     Proves c.in-Ok.parts.items c.in-Ok.ensures.reads (subst All c.deref.ensures.value c.in-None.ensures.first)
 
 -- a text that reads and breaks a rule comes to `Fails`, with the first lattice and the lowest rule
 pub returns-clause-is : goal.returns-clause-is
 returns-clause-is c =
-    let First : List Part → Type 0 = λ parts. FailsFirst c.args.graph.now (orders_of c.args.lattices.now) parts c.in-Some.before c.in-Some.rule in
-    Breaks c.in-Ok.parts.items c.in-Some.before c.in-Some.rule c.in-Ok.ensures.reads (subst First c.deref.ensures.value c.in-Some.ensures.first)
+    let First : List Part → Type 0 =
+    λ parts. FailsFirst c.args.graph.now (orders_of c.args.lattices.now) parts c.in-Some.before c.in-Some.rule in
+    Breaks c.in-Ok.parts.items c.in-Some.before c.in-Some.rule c.in-Ok.ensures.reads
+    (subst First c.deref.ensures.value c.in-Some.ensures.first)

@@ -8,6 +8,7 @@ pub returns-in-Unread : goal.returns-in-Unread
 returns-in-Unread c =
     let put = c.put_bad-in-Unread in
     let old = c.args.out.now.items in
-    let By : List ℕ → Type 0 = λ name. OnOk put.result (put.new.out.items ≡ old ++ bad_text (codes "certificate bad at line ") c.in-Unread.line name) in
+    let By : List ℕ → Type 0 = λ name.
+    OnOk put.result (put.new.out.items ≡ old ++ bad_text (codes "certificate bad at line ") c.in-Unread.line name) in
     let Of : Verdict → Type 0 = λ verdict. OnOk put.result (put.new.out.items ≡ old ++ verdict_text verdict) in
     subst Of (sym c.in-Unread.is) (subst By c.name_of.ensures put.ensures)

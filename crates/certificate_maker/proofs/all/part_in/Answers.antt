@@ -9,7 +9,8 @@ returns-in-Some-clause-rejected c = λ none accepted.
     let same = c.run.ensures.lattice ∙ c.in_ok-solver.ensures.lattice in
     let In : ℕ → Type 0 = λ l. IsAcceptedIn c.args.graph.now l c.args.lattice.now.order in
     let first = c.in-Some.ensures.first c.requires.owned in
-    exceeded_unmet c.args.graph.now c.run.new.self.lattice c.args.lattice.now.order c.in-Some.field-0 first.exceeded (subst In (sym same) accepted)
+    exceeded_unmet c.args.graph.now c.run.new.self.lattice c.args.lattice.now.order c.in-Some.field-0 first.exceeded
+    (subst In (sym same) accepted)
 
 -- a lattice without an exceeded bound accepts the program
 pub returns-clause-accepted : goal.returns-clause-accepted

@@ -18,9 +18,11 @@ returns-clause-written c =
     let below = c.vars-vars.ensures.above in
     record {
       paired = pairs_say sys lattice c.in_ok-pairs.pairs.items c.in_ok-pairs.ensures.joined;
-      first = sets_say sys lattice vars below (λ e v. Returning sys lattice e v) (λ v. set_of solution.phases First v) c.in_ok-first.first.items c.in_ok-first.ensures
+      first = sets_say sys lattice vars below (λ e v. Returning sys lattice e v)
+          (λ v. set_of solution.phases First v) c.in_ok-first.first.items c.in_ok-first.ensures
           (λ e v path. inl path) (first_exact sys lattice solution c.requires.lattice c.requires.solved);
-      second = sets_say sys lattice vars below (λ e v. Lead sys lattice e v) (λ v. reached_at solution v) c.in_ok-second.second.items c.in_ok-second.ensures
+      second = sets_say sys lattice vars below (λ e v. Lead sys lattice e v)
+          (λ v. reached_at solution v) c.in_ok-second.second.items c.in_ok-second.ensures
           (λ e v path. path) (second_exact sys lattice solution c.requires.lattice c.requires.solved);
     }
 
@@ -35,18 +37,21 @@ returns-clause-part c = λ order named.
     let same = c.vars-vars.ensures.value in
     record {
       firsts = subst (λ (n : ℕ). AreSets order n c.in_ok-first.first.items) same
-          (sets_of sys lattice vars below (λ e v. Returning sys lattice e v) (λ v. set_of solution.phases First v) c.in_ok-first.first.items c.in_ok-first.ensures
+          (sets_of sys lattice vars below (λ e v. Returning sys lattice e v)
+          (λ v. set_of solution.phases First v) c.in_ok-first.first.items c.in_ok-first.ensures
           (λ e v path. inl path) (first_exact sys lattice solution c.requires.lattice c.requires.solved) order named);
       seconds = subst (λ (n : ℕ). AreSets order n c.in_ok-second.second.items) same
-          (sets_of sys lattice vars below (λ e v. Lead sys lattice e v) (λ v. reached_at solution v) c.in_ok-second.second.items c.in_ok-second.ensures
+          (sets_of sys lattice vars below (λ e v. Lead sys lattice e v)
+          (λ v. reached_at solution v) c.in_ok-second.second.items c.in_ok-second.ensures
           (λ e v path. path) (second_exact sys lattice solution c.requires.lattice c.requires.solved) order named);
       ascending = c.in_ok-pairs.ensures.ascending;
-      below = subst (λ (n : ℕ). AreBelow n c.in_ok-pairs.pairs.items) same (pairs_below sys lattice vars below c.in_ok-pairs.pairs.items c.in_ok-pairs.ensures.joined);
+      below = subst (λ (n : ℕ). AreBelow n c.in_ok-pairs.pairs.items) same
+          (pairs_below sys lattice vars below c.in_ok-pairs.pairs.items c.in_ok-pairs.ensures.joined);
     }
 
 -- of an accepted, well owned program the certificate obeys the rules
 pub returns-clause-holds : goal.returns-clause-holds
 returns-clause-holds c = λ order owned is_order accepted.
-    c.accepted_is_certified.ensures c.args.graph.now c.args.lattice order
-    (certificate_of (record { pairs = c.in_ok-pairs.pairs; first = c.in_ok-first.first; second = c.in_ok-second.second }))
-    owned is_order (returns-clause-written c) accepted
+    c.accepted_is_certified.ensures c.args.graph.now c.args.lattice order (certificate_of
+    (record { pairs = c.in_ok-pairs.pairs; first = c.in_ok-first.first; second = c.in_ok-second.second })) owned
+    is_order (returns-clause-written c) accepted

@@ -11,8 +11,10 @@ loop-at-preserved c =
     let ds = c.args.text.now in
     let at = c.loop-at.at in
     let digit : is_ascii_digit (get_or ds at 0) ≡ true = grind (arith, c.is_ascii_digit.ensures.value) in
-    let same : 10 * c.loop-at.number + (get_or ds at 0 - 48) ≡ 10 * c.loop-at.number + c.from.result = omega (arith, c.from.ensures) in
+    let same : 10 * c.loop-at.number + (get_or ds at 0 - 48) ≡ 10 * c.loop-at.number + c.from.result =
+    omega (arith, c.from.ensures) in
     record {
       writes = digit_more ds at c.loop-at.number c.loop-at-test.true c.loop-at.invariant.writes digit ∙ ap Some same;
-      bare = All-more (λ b. 48 ≤ b) ds at 0 c.loop-at-test.true c.loop-at.invariant.bare (digit_bounds (get_or ds at 0) digit).0;
+      bare = All-more (λ b. 48 ≤ b) ds at 0 c.loop-at-test.true c.loop-at.invariant.bare
+          (digit_bounds (get_or ds at 0) digit).0;
     }

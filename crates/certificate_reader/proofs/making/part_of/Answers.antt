@@ -8,4 +8,5 @@ pub pairs_of-requires : goal.pairs_of-requires
 pairs_of-requires c = pairs_exist c.args.graph.now c.args.sets.now c.args.pairs.now c.requires
 
 pub returns : goal.returns
-returns c = part_is c.args.graph.now c.args.sets.now c.args.pairs.now c.requires _ c.in_ok-first.ensures c.in_ok-pairs.ensures
+returns c =
+    part_is c.args.graph.now c.args.sets.now c.args.pairs.now c.requires _ c.in_ok-first.ensures c.in_ok-pairs.ensures

@@ -9,7 +9,8 @@ pub loop-set-preserved : goal.loop-set-preserved
 loop-set-preserved c =
     let sys = c.args.graph.now in
     let it : SetLine = get_or c.args.sets.now c.loop-set.set-index (record { name = 0; first = 0; second = 0 }) in
-    rw (take_more c.args.sets.now c.loop-set.set-index (record { name = 0; first = 0; second = 0 }) c.loop-set-test.true)
-    (fill_more sys _ it c.loop-set.first.items c.loop-set.second.items c.number-at.result c.new.result c.new-in-loop-set.result c.loop-set.invariant
-    (var_there sys it.name c.end_at.result c.end_at.ensures.there ∙ sym c.number-at.ensures) (omega (arith, c.number-at.ensures, c.end_at.ensures.below)) c.new.ensures
-    c.new-in-loop-set.ensures)
+    rw (take_more c.args.sets.now c.loop-set.set-index
+    (record { name = 0; first = 0; second = 0 }) c.loop-set-test.true) (fill_more sys _ it c.loop-set.first.items
+    c.loop-set.second.items c.number-at.result c.new.result c.new-in-loop-set.result c.loop-set.invariant
+    (var_there sys it.name c.end_at.result c.end_at.ensures.there ∙ sym c.number-at.ensures)
+    (omega (arith, c.number-at.ensures, c.end_at.ensures.below)) c.new.ensures c.new-in-loop-set.ensures)

@@ -10,8 +10,8 @@ returns-in_err-take_line-clause-fault c =
     let sys = c.args.scene.now.graph.now in
     let alls = c.args.scene.now.alls.now in
     let p = err_from_is_err_and c.from_residual.result c.from_residual.ensures.1 in
-    rw (p.1, p.2)
-    (fails_here sys alls c.law.ensures.few c.requires.few c.args.bytes.now c.lines.reader c.lines.number c.lines.rest.now c.in-Some.behind.now c.in-Some.line _ c.lines.invariant.stands c.in-Some.ensures
+    rw (p.1, p.2) (fails_here sys alls c.law.ensures.few c.requires.few c.args.bytes.now c.lines.reader c.lines.number
+    c.lines.rest.now c.in-Some.behind.now c.in-Some.line _ c.lines.invariant.stands c.in-Some.ensures
     c.in_err-take_line.ensures.err)
 
 -- a line that is taken leads to the state behind it, one line further
@@ -20,7 +20,8 @@ lines-preserved c =
     let sys = c.args.scene.now.graph.now in
     let alls = c.args.scene.now.alls.now in
     record {
-      stands = takes_here sys alls c.law.ensures.few c.requires.few c.args.bytes.now c.lines.reader c.take_line.new.self c.lines.number c.lines.rest.now c.in-Some.behind.now c.in-Some.line
+      stands = takes_here sys alls c.law.ensures.few c.requires.few c.args.bytes.now c.lines.reader c.take_line.new.self
+          c.lines.number c.lines.rest.now c.in-Some.behind.now c.in-Some.line
           c.lines.invariant.stands c.in-Some.ensures c.in_ok-take_line.ensures.ok;
       few = omega (arith, c.in-Some.ensures.shorter, c.lines.invariant.few);
     }
@@ -31,7 +32,6 @@ returns-clause-reads c =
     let sys = c.args.scene.now.graph.now in
     let alls = c.args.scene.now.alls.now in
     both_ok _ (λ parts. IsReadAs sys alls c.args.bytes.now parts.items) c.finish.result
-    (λ parts ends closes.
-    reads_whole sys alls c.law.ensures.few c.requires.few c.args.bytes.now c.lines.reader c.lines.number c.lines.rest.now parts.items c.lines.invariant.stands
-    (none_left c.lines.rest.now c.is_empty.result c.if-not-is_empty.false c.is_empty.ensures) ends closes)
-    c.finish.ensures.ends c.finish.ensures.parts
+    (λ parts ends closes. reads_whole sys alls c.law.ensures.few c.requires.few c.args.bytes.now c.lines.reader
+    c.lines.number c.lines.rest.now parts.items c.lines.invariant.stands (none_left c.lines.rest.now c.is_empty.result
+    c.if-not-is_empty.false c.is_empty.ensures) ends closes) c.finish.ensures.ends c.finish.ensures.parts

@@ -4,7 +4,8 @@ use Rattle.certificate_text.proofs.names.end_at.Goals as goal
 
 pub returns-then-end-eq0-clause-there : goal.returns-then-end-eq0-clause-there
 returns-then-end-eq0-clause-there c =
-    rw c.first_end.ensures (first_there c.args.graph.now.constraints c.new.result c.args.end _ c.constraint-link.ensures.there (omega (arith, c.new.ensures)))
+    rw c.first_end.ensures (first_there c.args.graph.now.constraints c.new.result c.args.end _
+    c.constraint-link.ensures.there (omega (arith, c.new.ensures)))
 
 -- the variable at an even end is below the number of variables
 pub returns-then-end-eq0-clause-below : goal.returns-then-end-eq0-clause-below
@@ -15,7 +16,8 @@ returns-then-end-eq0-clause-below c =
 
 pub returns-else-end-eq0-clause-there : goal.returns-else-end-eq0-clause-there
 returns-else-end-eq0-clause-there c =
-    rw c.second_end.ensures (second_there c.args.graph.now.constraints c.new.result c.args.end _ c.constraint-link.ensures.there (omega (arith, c.new.ensures)))
+    rw c.second_end.ensures (second_there c.args.graph.now.constraints c.new.result c.args.end _
+    c.constraint-link.ensures.there (omega (arith, c.new.ensures)))
 
 -- the variable at an odd end is below the number of variables
 pub returns-else-end-eq0-clause-below : goal.returns-else-end-eq0-clause-below

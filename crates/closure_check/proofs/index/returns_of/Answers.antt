@@ -14,7 +14,8 @@ loop-n-preserved c = record {
     | inl before ↦ c.note.ensures.kept s n (c.loop-n.invariant.all n s y v before has)
     | inr last ↦
         let same : c.loop-n.n ≡ n = omega (arith, low, last) in
-        let Here : ℕ → Type 0 = λ k. Has c.args.graph.now k (Leave s y v) → LiesIn (span_at c.note.new.spans.items s) k in
+        let Here : ℕ → Type 0 = λ k. Has c.args.graph.now k (Leave s y v)
+        → LiesIn (span_at c.note.new.spans.items s) k in
         subst Here same (c.note.ensures.here s y v) has
   ];
 }

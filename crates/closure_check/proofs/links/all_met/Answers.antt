@@ -9,7 +9,8 @@ returns-then-not-are_met_at c = λ (no : false ≡ true). absurd cc
 
 pub loop-n-preserved : goal.loop-n-preserved
 loop-n-preserved c = below_more _ _ c.loop-n.invariant
-    (let At : ℕ → Type 0 = λ k. (rule : CertRule) → AsksAt c.args.given.now rule k in subst At c.new.ensures (c.if-not-are_met_at.ensures refl))
+    (let At : ℕ → Type 0 = λ k. (rule : CertRule) → AsksAt c.args.given.now rule k in
+    subst At c.new.ensures (c.if-not-are_met_at.ensures refl))
 
 -- where the loop comes through, each link is met by every rule
 pub returns : goal.returns

@@ -9,10 +9,13 @@ loop-low-preserved-then-is_below c =
     let middle : ℕ = c.loop-low.low + (c.loop-low.high - c.loop-low.low) / 2 in
     let less : middle < c.loop-low.high = half_less c.loop-low.low c.loop-low.high c.loop-low-test.true in
     let inv = c.loop-low.invariant in
-    let at = slice_get-get_or c.args.pairs.now middle c.index-pairs-middle.result (omega (arith, less, inv.1)) ∙ ap Some (sym c.index-pairs-middle.is) in (
+    let at = slice_get-get_or c.args.pairs.now middle c.index-pairs-middle.result (omega (arith, less, inv.1))
+    ∙ ap Some (sym c.index-pairs-middle.is) in (
       omega (arith, less),
       inv.1,
-      λ k p low there. below_on c.args.pairs.now middle k c.index-pairs-middle.result p c.args.from c.args.to c.requires at (sym c.is_below.ensures ∙ c.if-is_below.true) (omega (arith, low)) there,
+      λ k p low there.
+          below_on c.args.pairs.now middle k c.index-pairs-middle.result p c.args.from c.args.to c.requires at
+          (sym c.is_below.ensures ∙ c.if-is_below.true) (omega (arith, low)) there,
       inv.3,
     )
 
@@ -22,9 +25,12 @@ loop-low-preserved c =
     let middle : ℕ = c.loop-low.low + (c.loop-low.high - c.loop-low.low) / 2 in
     let less : middle < c.loop-low.high = half_less c.loop-low.low c.loop-low.high c.loop-low-test.true in
     let inv = c.loop-low.invariant in
-    let at = slice_get-get_or c.args.pairs.now middle c.index-pairs-middle.result (omega (arith, less, inv.1)) ∙ ap Some (sym c.index-pairs-middle.is) in (
+    let at = slice_get-get_or c.args.pairs.now middle c.index-pairs-middle.result (omega (arith, less, inv.1))
+    ∙ ap Some (sym c.index-pairs-middle.is) in (
       omega arith,
       omega (arith, less, inv.1),
       inv.2,
-      λ k p low there. behind_on c.args.pairs.now middle k c.index-pairs-middle.result p c.args.from c.args.to c.requires at (sym c.is_below.ensures ∙ c.if-is_below.false) low there,
+      λ k p low there.
+          behind_on c.args.pairs.now middle k c.index-pairs-middle.result p c.args.from c.args.to c.requires at
+          (sym c.is_below.ensures ∙ c.if-is_below.false) low there,
     )

@@ -13,6 +13,8 @@ returns-else-ne c =
     let At : ℕ → Link = λ s. Leave s back.from back.to in
     let is = c.in-Some.ensures ∙ ap At same in
     let it = c.constraint-constraint in (
-      λ yes. goes_by c.args.given.now c.args.going.now c.args.site c.args.inner c.args.edge back.from back.to it.result it.ensures.there is (c.goes_out.ensures.0 yes),
-      λ all. c.goes_out.ensures.1 (by_goes c.args.given.now c.args.going.now c.args.site c.args.inner c.args.edge back.from back.to it.result it.ensures.there is (c.if-not-is_in.ensures.0 refl) all),
+      λ yes. goes_by c.args.given.now c.args.going.now c.args.site c.args.inner c.args.edge back.from back.to it.result
+          it.ensures.there is (c.goes_out.ensures.0 yes),
+      λ all. c.goes_out.ensures.1 (by_goes c.args.given.now c.args.going.now c.args.site c.args.inner c.args.edge
+          back.from back.to it.result it.ensures.there is (c.if-not-is_in.ensures.0 refl) all),
     )

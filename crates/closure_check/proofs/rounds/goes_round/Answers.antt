@@ -10,7 +10,8 @@ returns-in-Some c = (
   λ yes y m pair v st.
       let In : Option Span → Type 0 = λ span. LiesIn span m in
       c.goes_through.ensures.0 yes m
-      (subst In (sym c.returns.ensures ∙ c.in-Some.is) (c.requires.index.returns m c.args.site y v (record { constraint = st.constraint; there = st.there; link_is = st.link_is }))) y pair v st,
+      (subst In (sym c.returns.ensures ∙ c.in-Some.is) (c.requires.index.returns m c.args.site y v
+      (record { constraint = st.constraint; there = st.there; link_is = st.link_is }))) y pair v st,
   λ all. c.goes_through.ensures.1 (λ m lies y pair. all y m pair),
 )
 
@@ -19,6 +20,7 @@ pub returns-in-None : goal.returns-in-None
 returns-in-None c = (
   λ yes y m pair v st.
       let In : Option Span → Type 0 = λ span. LiesIn span m in
-      absurd (subst In (sym c.returns.ensures ∙ c.in-None.is) (c.requires.index.returns m c.args.site y v (record { constraint = st.constraint; there = st.there; link_is = st.link_is }))),
+      absurd (subst In (sym c.returns.ensures ∙ c.in-None.is) (c.requires.index.returns m c.args.site y v
+      (record { constraint = st.constraint; there = st.there; link_is = st.link_is }))),
   λ all. refl,
 )

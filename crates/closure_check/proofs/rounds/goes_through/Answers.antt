@@ -13,7 +13,8 @@ returns-then-not-goes_back c = (
       let low = c.loop-n.auto.n in
       let high = c.loop-n-test.true in
       let end = c.min-end.ensures in
-      sym c.if-not-goes_back.true ∙ c.goes_back.ensures.1 (all c.new.result (omega (arith, here, low), omega (arith, here, high, end))),
+      sym c.if-not-goes_back.true
+      ∙ c.goes_back.ensures.1 (all c.new.result (omega (arith, here, low), omega (arith, here, high, end))),
 )
 
 -- a constraint that goes back joins those of the span before it

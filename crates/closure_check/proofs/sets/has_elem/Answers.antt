@@ -1,5 +1,6 @@
 use Rattle.std.proofs.Common.{◌≤◌, ◌<◌, ◌^◌, ℕ, sym, ◌∙◌, subst}
-use Rattle.closure_check.proofs.BitSets.{none_above, not_below}
+use Rattle.qual_base.proofs.Tests.{not_below}
+use Rattle.closure_check.proofs.BitSets.{none_above}
 use Rattle.closure_check.proofs.sets.has_elem.Goals as goal
 
 -- a set has no element from 64 on

@@ -11,9 +11,10 @@ use Rattle.row_rules.specs.Annotations.{has_access}
 use Rattle.row_rules.specs.Sites.{variables_among}
 use Rattle.unit_system.specs.Numberings.{IsNumberingOf}
 use Rattle.unit_system.specs.Systems.{AreNumbered, names_on, starts_on}
+use Rattle.row_laws.proofs.KeyLaws.Sound.{sound_of}
 use Rattle.constraint_gen.specs.Listing.{is_listed, listed_at}
 use Rattle.constraint_gen.specs.Programs.{program_in}
-use Rattle.constraint_gen.proofs.Sources.{sound_of, counted, generated}
+use Rattle.constraint_gen.proofs.Sources.{counted, generated}
 use Rattle.constraint_gen.proofs.Units.{numbers_differ}
 use Rattle.constraint_gen.proofs.generating.generate.Goals as goal
 
@@ -25,13 +26,11 @@ pub returns-in-Ok-constrain-clause-made : goal.returns-in-Ok-constrain-clause-ma
 returns-in-Ok-constrain-clause-made c = λ all is.
     generated c.args.program.now all c.args.units.now is c.args.lattices.now c.args.prelude.now
     c.starts_of_program_are_found.ensures c.positions_are_counted.ensures c.positions_stand.ensures _
-    (c.in-Ok-constrain.ensures.system all is)
-    (subst (λ (s : Skeletons). AreNumbered (starts_on (has_access c.args.lattices.now) c.args.program.now) s)
-    (sym c.in-Ok-constrain.ensures.skeletons)
+    (c.in-Ok-constrain.ensures.system all is) (subst (λ (s : Skeletons). AreNumbered
+    (starts_on (has_access c.args.lattices.now) c.args.program.now) s) (sym c.in-Ok-constrain.ensures.skeletons)
     (subst (λ (b : Bool). IsNumberingOf b c.args.program.now c.in-Ok.it.numbering) c.bounds_accesses.ensures
-    c.in-Ok.ensures.numbers).skeletons)
-    (subst (λ (b : Bool). c.in-Ok.it.listed.items
-    ≡ listed_at (is_listed c.args.units.now (names_on c.args.program.now)) 0 (positions_of (starts_on b c.args.program.now)))
+    c.in-Ok.ensures.numbers).skeletons) (subst (λ (b : Bool). c.in-Ok.it.listed.items ≡ listed_at
+    (is_listed c.args.units.now (names_on c.args.program.now)) 0 (positions_of (starts_on b c.args.program.now)))
     c.bounds_accesses.ensures (c.in-Ok.ensures.listed (numbers_differ all c.args.units.now is.lexed is.differ)))
 
 -- the graph that is made is well owned: no flow leaves a function but by a call
@@ -50,7 +49,8 @@ returns-in-Ok-constrain-clause-named c = λ all is.
 -- each constant and bound of the graph that is made is an element of the order of its lattice
 pub returns-in-Ok-constrain-clause-elements : goal.returns-in-Ok-constrain-clause-elements
 returns-in-Ok-constrain-clause-elements c = λ all is.
-    subst (λ (sys : System). NamesElements sys (orders_of c.args.lattices.now)) (sym (c.in-Ok-constrain.ensures.system all is))
+    subst (λ (sys : System). NamesElements sys (orders_of c.args.lattices.now))
+    (sym (c.in-Ok-constrain.ensures.system all is))
     (c.elements_are_named.ensures.lattices (program_in c.args.lattices.now c.args.prelude.now all)
     (sound_of (sources_in all) is.read) c.law.ensures.sized)
 

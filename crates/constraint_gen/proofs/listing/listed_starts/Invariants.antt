@@ -9,7 +9,8 @@ use Rattle.constraint_gen.proofs.listing.listed_starts.Given as goal
 -- invariant of the loop: what is listed, with the skeletons still to come, is the listing of all; so is the count
 abbrev pub invariant-loop-start : goal.invariant-loop-start
 invariant-loop-start l =
-    (NumbersDiffer l.units → l.found.items ++ listed_from (is_listed l.units (names_in l.program.rows l.program.names)) l.from
+    (NumbersDiffer l.units
+    → l.found.items ++ listed_from (is_listed l.units (names_in l.program.rows l.program.names)) l.from
     (map (start_in l.program.rows) (drop l.start-index l.starts))
     ≡ listed_from (is_listed l.units (names_in l.program.rows l.program.names)) 0
     (map (start_in l.program.rows) l.starts))

@@ -11,5 +11,5 @@ returns c =
     let lexed = c.args.tokens.now in
     let new : has_unit units lexed.unit ≡ false =
     sym (c.has_unit.ensures ∙ ap (has_unit units) c.unit.ensures) ∙ c.if-has_unit.false in
-    on_ok_weaker c.add_marks.result (λ marked. marks_more units lexed c.args.found.now c.add_marks.new.found new c.requires marked)
-    c.add_marks.ensures
+    on_ok_weaker c.add_marks.result
+    (λ marked. marks_more units lexed c.args.found.now c.add_marks.new.found new c.requires marked) c.add_marks.ensures

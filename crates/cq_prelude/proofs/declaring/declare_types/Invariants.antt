@@ -6,4 +6,5 @@ use Rattle.cq_prelude.proofs.declaring.declare_types.Given as goal
 
 abbrev pub invariant-loop-word : goal.invariant-loop-word
 invariant-loop-word l =
-    has_typedef_word (storage_words (spec_words_from (drop l.word-index l.words))) ≡ has_typedef_word (storage_words (spec_words_from l.words))
+    has_typedef_word (storage_words (spec_words_from (drop l.word-index l.words)))
+    ≡ has_typedef_word (storage_words (spec_words_from l.words))

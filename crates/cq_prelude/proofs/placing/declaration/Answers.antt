@@ -4,5 +4,6 @@ use Rattle.c_tree.proofs.ViewLemmas.{declaration_is}
 use Rattle.cq_prelude.proofs.placing.declaration.Goals as goal
 
 pub returns : goal.returns
-returns c = subst (λ t. OnOk c.declaration_parts.result (c.declaration_parts.new.left ≡ in_declaration t ++ c.args.left.now))
+returns c =
+    subst (λ t. OnOk c.declaration_parts.result (c.declaration_parts.new.left ≡ in_declaration t ++ c.args.left.now))
     (sym (declaration_is c.args.it.now)) (search rules)

@@ -6,4 +6,5 @@ use Rattle.cq_prelude.proofs.placing.first_body.Given as goal
 
 abbrev pub invariant-loop-item : goal.invariant-loop-item
 invariant-loop-item l =
-    least_behind l.best (bodies (map item_of (drop l.item-index l.items))) ≡ least_behind None (bodies (map item_of l.items))
+    least_behind l.best (bodies (map item_of (drop l.item-index l.items)))
+    ≡ least_behind None (bodies (map item_of l.items))

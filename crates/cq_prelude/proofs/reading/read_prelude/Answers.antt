@@ -12,15 +12,19 @@ returns-in_err-tokens-clause-only c it marks h =
 -- a fault of the unit that was parsed is a fault of the bytes
 pub returns-in_err-prelude-in-Ok-clause-refused : goal.returns-in_err-prelude-in-Ok-clause-refused
 returns-in_err-prelude-in-Ok-clause-refused c =
-    let p = err_from_is_err_and c.from_residual-in_err-prelude-in-Ok.result c.from_residual-in_err-prelude-in-Ok.ensures.1 in
+    let p =
+    err_from_is_err_and c.from_residual-in_err-prelude-in-Ok.result c.from_residual-in_err-prelude-in-Ok.ensures.1 in
     rw (p.1, p.2) (unit_fault _ _ _ _ _
-    (record { lexes = c.in_ok-tokens.ensures.lexes; formed = c.in-Ok.ensures.unit }) c.in_err-prelude-in-Ok.ensures.fault)
+    (record { lexes = c.in_ok-tokens.ensures.lexes; formed = c.in-Ok.ensures.unit })
+    c.in_err-prelude-in-Ok.ensures.fault)
 
 -- where bytes are a prelude, judging the unit that was parsed fails by want of memory alone
 pub returns-in_err-prelude-in-Ok-clause-only : goal.returns-in_err-prelude-in-Ok-clause-only
 returns-in_err-prelude-in-Ok-clause-only c it marks h =
-    let p = err_from_is_err_and c.from_residual-in_err-prelude-in-Ok.result c.from_residual-in_err-prelude-in-Ok.ensures.1 in
-    let same = unit_is _ _ _ it marks _ _ (c.in_ok-tokens.ensures.only it.lexed h.parses.lexes) c.in-Ok.ensures.only h in
+    let p =
+    err_from_is_err_and c.from_residual-in_err-prelude-in-Ok.result c.from_residual-in_err-prelude-in-Ok.ensures.1 in
+    let same =
+    unit_is _ _ _ it marks _ _ (c.in_ok-tokens.ensures.only it.lexed h.parses.lexes) c.in-Ok.ensures.only h in
     rw p.1 (p.2 ∙ memory_only _ _ _ it marks _ _ same h c.in_err-prelude-in-Ok.ensures.fault)
 
 pub returns-in-Ok-clause-only : goal.returns-in-Ok-clause-only

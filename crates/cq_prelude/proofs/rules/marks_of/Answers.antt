@@ -13,7 +13,8 @@ returns-in-Ok-clause-rules c =
     let marked = rw c.as_slice-3.ensures.value at c.in-Ok.ensures.all in
     let least = rw c.as_slice-2.ensures.value at c.first_body-body.ensures in
     IfOk-weaker c.unless_body.result _ _
-    (λ it h. none_fails _ (items_of c.args.unit.now) _ flagged c.first_body-body.result _ least h.1 marked) c.unless_body.ensures.none
+    (λ it h. none_fails _
+    (items_of c.args.unit.now) _ flagged c.first_body-body.result _ least h.1 marked) c.unless_body.ensures.none
 
 -- the marks of all tokens are those of the unit, where no function has a body
 pub returns-in-Ok-clause-marks : goal.returns-in-Ok-clause-marks

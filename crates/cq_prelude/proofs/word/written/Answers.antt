@@ -46,4 +46,5 @@ returns-clause-some c =
     (λ x b q k. search (rules, tests)))
     c.loop-group.yielded _ c.loop-group.yielded_by _ _ c.in-None.is c.next.ensures.steps in
     subst (λ (groups : List (List ℕ)). AllZip IsWritten groups c.loop-group.numbers.items)
-    (ap (λ (n : ℕ). take n (slice_split is_low_line c.args.groups.now)) end.1 ∙ take_all _ _ (omega arith)) c.loop-group.invariant
+    (ap (λ (n : ℕ). take n (slice_split is_low_line c.args.groups.now)) end.1
+    ∙ take_all _ _ (omega arith)) c.loop-group.invariant

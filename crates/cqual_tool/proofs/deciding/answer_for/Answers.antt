@@ -2,7 +2,7 @@ use Rattle.std.proofs.Common.{Some, Ok, Err, ap, refl, subst, sym, ◌∙◌}
 use Rattle.std.proofs.lemmas.Result.{err_from_is_err_and}
 use Rattle.cqual_words.specs.declared.asked.Asked.{Asked}
 use Rattle.cqual_words.specs.Asked.{NamesSources, task_of}
-use Rattle.cqual_tool.specs.declared.taking.Stop.TheVariants.{NoMemory}
+use Rattle.cqual_tool.specs.declared.taking.Failure.TheVariants.{NoMemory}
 use Rattle.cqual_tool.specs.Words.{names_in, names_of}
 use Rattle.cqual_tool.specs.Outcome.{OfGenerated}
 use Rattle.cqual_tool.proofs.Asking.{counted}
@@ -32,5 +32,6 @@ returns-in_ok-made_answer-in-Generate-clause-reads g c =
 pub answer-requires : goal.answer-requires
 answer-requires g c =
     let count =
-    counted (names_in c.of_files.result) c.in-Ask.names _ c.of_files.ensures (subst NamesSources c.in-Ask.is c.requires.sources) in
+    counted (names_in c.of_files.result) c.in-Ask.names _ c.of_files.ensures
+    (subst NamesSources c.in-Ask.is c.requires.sources) in
     record { some = count.0; few = count.1 }

@@ -11,7 +11,8 @@ use Rattle.cqual_tool.proofs.ending.alone.Goals as goal
 pub returns-in-Certify-clause-alone : goal.returns-in-Certify-clause-alone
 returns-in-Certify-clause-alone c = λ units marks is.
     let it = judging_of (names_in c.args.named.now) c.args.lattices.now marks units in
-    subst (λ (q : Question). IfOk c.certificate.result (λ answer. IsAlone (question_in q) it answer.status answer.text.items))
+    subst (λ (q : Question).
+    IfOk c.certificate.result (λ answer. IsAlone (question_in q) it answer.status answer.text.items))
     (sym c.in-Certify.is) (c.certificate.ensures.certified units marks is)
 
 -- where it is asked who reaches a name, who does is the answer alone
@@ -25,5 +26,6 @@ returns-in-Who-clause-alone c = λ units marks is.
 pub returns-in-Sign-clause-alone : goal.returns-in-Sign-clause-alone
 returns-in-Sign-clause-alone c = λ units marks is.
     let it = judging_of (names_in c.args.named.now) c.args.lattices.now marks units in
-    subst (λ (q : Question). IfOk c.signatures.result (λ answer. IsAlone (question_in q) it answer.status answer.text.items))
+    subst (λ (q : Question).
+    IfOk c.signatures.result (λ answer. IsAlone (question_in q) it answer.status answer.text.items))
     (sym c.in-Sign.is) (c.signatures.ensures.signed units marks is)

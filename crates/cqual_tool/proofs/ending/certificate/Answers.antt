@@ -8,8 +8,8 @@ use Rattle.cqual_tool.proofs.ending.certificate.Goals as goal
 pub returns-in-Some-clause-certified : goal.returns-in-Some-clause-certified
 returns-in-Some-clause-certified c = λ units marks is.
     let it = judging_of (names_in c.args.named.now) c.args.lattices.now marks units in
-    certified_as it c.args.lattices.now c.args.ready.now.made.graph c.in_ok-text.field-0 c.in-Some.text refl is.made.system c.in-Some.is
-    c.in_ok-text.ensures.text c.in_ok-text.ensures.accepted
+    certified_as it c.args.lattices.now c.args.ready.now.made.graph c.in_ok-text.field-0 c.in-Some.text refl
+    is.made.system c.in-Some.is c.in_ok-text.ensures.text c.in_ok-text.ensures.accepted
 
 -- where nothing was certified, the report is the answer for the certificate
 pub returns-in-None-clause-certified : goal.returns-in-None-clause-certified

@@ -1,7 +1,7 @@
 use Rattle.std.proofs.Common.{◌≡◌, ◌≤◌, ℕ, List, length, Err, refl, ap, sym, ◌∙◌, subst}
 use Rattle.std.specs.Option.{option_map}
 use Rattle.std.proofs.lemmas.Result.{err_from_is_err_and}
-use Rattle.cqual_tool.specs.declared.taking.Stop.TheVariants.{NoMemory}
+use Rattle.cqual_tool.specs.declared.taking.Failure.TheVariants.{NoMemory}
 use Rattle.cqual_tool.specs.declared.status.Status.TheVariants.{Malformed}
 use Rattle.cqual_tool.specs.Words.{names_in}
 use Rattle.cqual_tool.specs.Programs.{judging_of}
@@ -29,7 +29,8 @@ pub returns-in_err-text-in-Some-clause-reads : goal.returns-in_err-text-in-Some-
 returns-in_err-text-in-Some-clause-reads g c = λ marks units is.
     let some = sym c.saved.ensures ∙ ap (option_map (λ name. name.now)) c.in-Some.is in
     let read = c.in_err-text-in-Some.ensures.read in
-    let gives = err_from_is_err_and c.from_residual-in_err-text-in-Some.result c.from_residual-in_err-text-in-Some.ensures.1 in
+    let gives =
+    err_from_is_err_and c.from_residual-in_err-text-in-Some.result c.from_residual-in_err-text-in-Some.ensures.1 in
     rw (gives.1, gives.2)
     (saved_stops _ _ read.0 read.1 (names_in c.args.named.now) c.in-Some.file.now read.2 some _ saved_limit _ read.3)
 
@@ -39,9 +40,11 @@ returns-in_err-of_saved-in-Some-2-clause-reads g c = λ marks units is.
     let some = sym c.saved.ensures ∙ ap (option_map (λ name. name.now)) c.in-Some.is in
     let read = c.in_ok-text-in-Some.ensures.read in
     let found = found_some saved_limit read.0 c.in_ok-text-in-Some.field-0 c.in-Some-2.text c.in-Some-2.is read.3 in
-    let gives = err_from_is_err_and c.from_residual-in_err-of_saved-in-Some-2.result c.from_residual-in_err-of_saved-in-Some-2.ensures.1 in
+    let gives = err_from_is_err_and c.from_residual-in_err-of_saved-in-Some-2.result
+    c.from_residual-in_err-of_saved-in-Some-2.ensures.1 in
     rw (gives.1, gives.2)
-    (saved_lacks _ _ read.0 read.1 (names_in c.args.named.now) c.in-Some.file.now read.2 some _ NoMemory refl (whole_stands read.0 found.0))
+    (saved_lacks _ _ read.0 read.1 (names_in c.args.named.now) c.in-Some.file.now read.2 some _ NoMemory refl
+    (whole_stands read.0 found.0))
 
 -- where memory is wanting for the line of a saved file that is too large, the call ends so behind its reading
 pub returns-in_err-too_large-in-None-2-clause-reads : goal.returns-in_err-too_large-in-None-2-clause-reads
@@ -49,9 +52,11 @@ returns-in_err-too_large-in-None-2-clause-reads g c = λ marks units is.
     let some = sym c.saved.ensures ∙ ap (option_map (λ name. name.now)) c.in-Some.is in
     let read = c.in_ok-text-in-Some.ensures.read in
     let found = found_none saved_limit read.0 c.in_ok-text-in-Some.field-0 c.in-None-2.is read.3 in
-    let gives = err_from_is_err_and c.from_residual-in_err-too_large-in-None-2.result c.from_residual-in_err-too_large-in-None-2.ensures.1 in
+    let gives = err_from_is_err_and c.from_residual-in_err-too_large-in-None-2.result
+    c.from_residual-in_err-too_large-in-None-2.ensures.1 in
     rw (gives.1, gives.2)
-    (saved_lacks _ _ read.0 read.1 (names_in c.args.named.now) c.in-Some.file.now read.2 some _ NoMemory refl (going_stands read.0 found.0))
+    (saved_lacks _ _ read.0 read.1 (names_in c.args.named.now) c.in-Some.file.now read.2 some _ NoMemory refl
+    (going_stands read.0 found.0))
 
 -- what the saved file comes to is the end of the call, behind its whole reading within the limit
 pub returns-in_ok-of_saved-in-Some-2-clause-reads : goal.returns-in_ok-of_saved-in-Some-2-clause-reads
@@ -86,7 +91,8 @@ returns-in_ok-too_large-in-None-2-clause-reads g c = λ marks units is.
     let found = found_none saved_limit r c.in_ok-text-in-Some.field-0 c.in-None-2.is read.3 in
     saved_answers _ _ r read.1 named file read.2 some it answer (going_stands r found.0)
     (λ inputs gives.
-    at_equal (IsEnd named inputs.saved it) _ Malformed _ _ c.in_ok-too_large-in-None-2.ensures.0 c.in_ok-too_large-in-None-2.ensures.1
+    at_equal (IsEnd named inputs.saved it) _ Malformed _ _ c.in_ok-too_large-in-None-2.ensures.0
+    c.in_ok-too_large-in-None-2.ensures.1
     (SavedTooLarge file some (past_limit saved_limit r inputs.saved found gives)))
 
 -- no saved file is asked of where `alone` is called, and its other demands are those of the call of `end`

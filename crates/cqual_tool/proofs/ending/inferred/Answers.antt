@@ -14,6 +14,5 @@ returns-clause-report c = λ units marks are differ made.
     ap scenes.units_of c.deref-2.ensures.value ∙ c.in_ok-units.ensures
     ∙ ap (λ (ls : List Lexed). texts_of named ls) c.deref.ensures.value
     ∙ ap (texts_of named) are in
-    IfOk-weaker c.report.result _ _
-    (λ answer is. is (judging_of named c.args.lattices.now marks units) (c.scene_of-scene.ensures.shows named units marks same differ made) (sym made.system))
-    c.report.ensures.report
+    IfOk-weaker c.report.result _ _ (λ answer is. is (judging_of named c.args.lattices.now marks units)
+    (c.scene_of-scene.ensures.shows named units marks same differ made) (sym made.system)) c.report.ensures.report

@@ -1,5 +1,5 @@
 use Rattle.std.proofs.Common.{List, length, refl, sym, ◌∙◌, ap, subst}
-use Rattle.qual_types.specs.declared.row.Row.{Row}
+use Rattle.qual_types.specs.declared.row.VarRow.{VarRow}
 use Rattle.qual_types.specs.Table.{Stands}
 use Rattle.annotate.specs.Scenes as scenes
 use Rattle.cqual_tool.proofs.Joining.{texts_apart}
@@ -13,6 +13,6 @@ returns-clause-shows c = λ named units marks same differ made.
       apart = subst scenes.AreApart (sym same) (texts_apart named units differ);
       lattices = refl;
       listed = sym (c.deref.ensures.value ∙ made.listed);
-      count = sym made.count ∙ ap (λ (rows : List Row). length rows) (sym c.vars.ensures);
-      stand = λ v p lt stands. made.stand p v (subst (λ (rows : List Row). Stands rows p v) c.vars.ensures stands);
+      count = sym made.count ∙ ap (λ (rows : List VarRow). length rows) (sym c.vars.ensures);
+      stand = λ v p lt stands. made.stand p v (subst (λ (rows : List VarRow). Stands rows p v) c.vars.ensures stands);
     }

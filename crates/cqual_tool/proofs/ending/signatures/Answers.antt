@@ -16,7 +16,8 @@ pub sign-requires-clause-apart : goal.sign-requires-clause-apart
 sign-requires-clause-apart c =
     let made = c.args.ready.now.made in
     let texts = scenes.units_of c.deref-4.result.now in
-    subst (λ (places : List Place). AreOwnedApart made.graph (map (external_at texts made.skeletons) places)) (sym c.deref-3.ensures.value)
+    subst (λ (places : List Place). AreOwnedApart made.graph (map (external_at texts made.skeletons) places))
+    (sym c.deref-3.ensures.value)
     (c.requires.signs.apart texts)
 
 -- an answer of the library is the answer for the signatures of its program
@@ -25,7 +26,8 @@ returns-in-Some-clause-signed c = λ units marks is.
     let named = names_in c.args.named.now in
     let it = judging_of named c.args.lattices.now marks units in
     let made = c.args.ready.now.made in
-    let are = c.in_ok-units.ensures ∙ ap (λ (ls : List Lexed). texts_of named ls) c.deref.ensures.value ∙ ap (texts_of named) is.units_are in
+    let are = c.in_ok-units.ensures ∙ ap (λ (ls : List Lexed). texts_of named ls) c.deref.ensures.value
+    ∙ ap (texts_of named) is.units_are in
     let same = ap scenes.units_of c.deref-2.ensures.value ∙ are in
     let lent = ap scenes.units_of c.deref-4.ensures.value ∙ are in
     let library =
@@ -40,10 +42,12 @@ pub returns-clause-signed : goal.returns-clause-signed
 returns-clause-signed c = λ units marks is.
     let named = names_in c.args.named.now in
     let it = judging_of named c.args.lattices.now marks units in
-    let are = c.in_ok-units.ensures ∙ ap (λ (ls : List Lexed). texts_of named ls) c.deref.ensures.value ∙ ap (texts_of named) is.units_are in
+    let are = c.in_ok-units.ensures ∙ ap (λ (ls : List Lexed). texts_of named ls) c.deref.ensures.value
+    ∙ ap (texts_of named) is.units_are in
     let same = ap scenes.units_of c.deref-2.ensures.value ∙ are in
     let never = c.in_ok-answer.ensures.rejected c.in-None.is in
-    unsigned_as it c.args.ready.now.made.graph c.scene_of-scene.result.lattices.now (sym c.scene_of-scene.ensures.lattices) (sym is.made.system) c.report.result never.0 never.1
+    unsigned_as it c.args.ready.now.made.graph c.scene_of-scene.result.lattices.now
+    (sym c.scene_of-scene.ensures.lattices) (sym is.made.system) c.report.result never.0 never.1
     (IfOk-weaker c.report.result _ _
-    (λ answer report. report it (c.scene_of-scene.ensures.shows named units marks same is.differ is.made) (sym is.made.system))
-    c.report.ensures.report)
+    (λ answer report. report it (c.scene_of-scene.ensures.shows named units marks same is.differ is.made)
+    (sym is.made.system)) c.report.ensures.report)

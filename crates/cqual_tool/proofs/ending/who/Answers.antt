@@ -14,7 +14,6 @@ returns-clause-answered c = λ units marks is.
     ap scenes.units_of c.deref-2.ensures.value ∙ c.in_ok-units.ensures
     ∙ ap (λ (ls : List Lexed). texts_of named ls) c.deref.ensures.value
     ∙ ap (texts_of named) is.units_are in
-    IfOk-weaker c.answered.result _ _
-    (λ answer who. who (judging_of named c.args.lattices.now marks units) (c.scene_of-scene.ensures.shows named units marks same is.differ is.made)
-    (sym is.made.system))
-    c.answered.ensures.answered
+    IfOk-weaker c.answered.result _ _ (λ answer who. who (judging_of named c.args.lattices.now marks units)
+    (c.scene_of-scene.ensures.shows named units marks same is.differ is.made)
+    (sym is.made.system)) c.answered.ensures.answered

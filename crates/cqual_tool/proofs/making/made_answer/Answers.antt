@@ -15,6 +15,7 @@ returns-clause-outcome c =
     (λ answer says reason. at_equal (OfMade c.args.number) _ Malformed _ _ says.0 says.1
     (MadeLatticesRefused fault (record {
       within = within;
-      refused = subst (λ (bytes : List ℕ). IsFileFault false bytes fault) c.lattice_bytes.ensures c.in-Err.ensures.refused;
+      refused =
+          subst (λ (bytes : List ℕ). IsFileFault false bytes fault) c.lattice_bytes.ensures c.in-Err.ensures.refused;
       reason = reason;
     })))

@@ -1,6 +1,6 @@
 use Rattle.std.proofs.Common.{List, [], length, refl, sym, ◌∙◌, ap, subst}
 use Rattle.std.proofs.lemmas.Result.{IfOk-weaker}
-use Rattle.qual_types.specs.declared.row.Row.{Row}
+use Rattle.qual_types.specs.declared.row.VarRow.{VarRow}
 use Rattle.qual_types.specs.Table.{Stands}
 use Rattle.annotate.specs.Scenes as scenes
 use Rattle.c_lexer.specs.Tokens.{Lexed}
@@ -29,8 +29,9 @@ returns-clause-sum c = λ units is.
       apart = subst scenes.AreApart (sym same) (texts_apart made_names units is.differ);
       lattices = refl;
       listed = sym (c.deref-3.ensures.value ∙ is.made.listed);
-      count = sym is.made.count ∙ ap (λ (rows : List Row). length rows) (sym c.vars.ensures);
-      stand = λ v p lt stands. is.made.stand p v (subst (λ (rows : List Row). Stands rows p v) c.vars.ensures stands);
+      count = sym is.made.count ∙ ap (λ (rows : List VarRow). length rows) (sym c.vars.ensures);
+      stand = λ v p lt stands.
+          is.made.stand p v (subst (λ (rows : List VarRow). Stands rows p v) c.vars.ensures stands);
     })
     (sym is.made.system))
     c.summed.ensures.sum

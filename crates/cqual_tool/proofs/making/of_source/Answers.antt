@@ -15,7 +15,8 @@ returns-then-bytes-gt-SOURCE_LIMIT-clause-outcome c = λ read.
     let test = c.if-bytes-gt-SOURCE_LIMIT.true in
     let large : source_limit < length bytes = omega arith in
     IfOk-weaker c.too_large.result _ _
-    (λ answer says. of_its_bytes number lattices bytes _ _ c.requires read (made_too_large number lattices bytes answer large says)) c.too_large.ensures
+    (λ answer says. of_its_bytes number lattices bytes _ _ c.requires read
+    (made_too_large number lattices bytes answer large says)) c.too_large.ensures
 
 -- the line that refuses the tokens of a made source is its answer
 pub returns-in-Refused-clause-outcome : goal.returns-in-Refused-clause-outcome
@@ -26,12 +27,14 @@ returns-in-Refused-clause-outcome c = λ read.
     let marks = c.nothing_before.result.prelude in
     let test = c.if-bytes-gt-SOURCE_LIMIT.false in
     let within : length bytes ≤ source_limit = omega arith in
-    let may : IsEarlier 1 [] c.nothing_before.result = record { are = c.nothing_before.ensures.units; may = nothing_earlier 1 } in
+    let may : IsEarlier 1 [] c.nothing_before.result =
+    record { are = c.nothing_before.ensures.units; may = nothing_earlier 1 } in
     let one =
-    at_number false lattices 1 c.new-unit.result (codes "generated.c") bytes [] marks c.nothing_before.result c.in_ok-answer.field-0
-    c.new-unit.ensures may (c.in_ok-answer.ensures lattices [] c.in_ok-words.ensures) in
+    at_number false lattices 1 c.new-unit.result (codes "generated.c") bytes [] marks c.nothing_before.result
+    c.in_ok-answer.field-0 c.new-unit.ensures may (c.in_ok-answer.ensures lattices [] c.in_ok-words.ensures) in
     let is = subst (IsOneMore false lattices 1 (codes "generated.c") bytes [] marks) c.in-Refused.is one in
-    of_its_bytes number lattices bytes _ _ c.requires read (made_unread number lattices bytes within c.in-Refused.answer is.0 is.1)
+    of_its_bytes number lattices bytes _ _ c.requires read
+    (made_unread number lattices bytes within c.in-Refused.answer is.0 is.1)
 
 -- the answer that refuses a made source is malformed, and so decided
 pub returns-in-Refused-clause-decided : goal.returns-in-Refused-clause-decided
@@ -39,10 +42,11 @@ returns-in-Refused-clause-decided c =
     let lattices = c.args.lattices.now in
     let bytes = c.args.bytes.now in
     let marks = c.nothing_before.result.prelude in
-    let may : IsEarlier 1 [] c.nothing_before.result = record { are = c.nothing_before.ensures.units; may = nothing_earlier 1 } in
+    let may : IsEarlier 1 [] c.nothing_before.result =
+    record { are = c.nothing_before.ensures.units; may = nothing_earlier 1 } in
     let one =
-    at_number false lattices 1 c.new-unit.result (codes "generated.c") bytes [] marks c.nothing_before.result c.in_ok-answer.field-0
-    c.new-unit.ensures may (c.in_ok-answer.ensures lattices [] c.in_ok-words.ensures) in
+    at_number false lattices 1 c.new-unit.result (codes "generated.c") bytes [] marks c.nothing_before.result
+    c.in_ok-answer.field-0 c.new-unit.ensures may (c.in_ok-answer.ensures lattices [] c.in_ok-words.ensures) in
     let is = subst (IsOneMore false lattices 1 (codes "generated.c") bytes [] marks) c.in-Refused.is one in
     subst IsDecided (sym is.0) tt
 
@@ -52,10 +56,11 @@ of_units-requires c =
     let lattices = c.args.lattices.now in
     let bytes = c.args.bytes.now in
     let marks = c.nothing_before.result.prelude in
-    let may : IsEarlier 1 [] c.nothing_before.result = record { are = c.nothing_before.ensures.units; may = nothing_earlier 1 } in
+    let may : IsEarlier 1 [] c.nothing_before.result =
+    record { are = c.nothing_before.ensures.units; may = nothing_earlier 1 } in
     let one =
-    at_number false lattices 1 c.new-unit.result (codes "generated.c") bytes [] marks c.nothing_before.result c.in_ok-answer.field-0
-    c.new-unit.ensures may (c.in_ok-answer.ensures lattices [] c.in_ok-words.ensures) in
+    at_number false lattices 1 c.new-unit.result (codes "generated.c") bytes [] marks c.nothing_before.result
+    c.in_ok-answer.field-0 c.new-unit.ensures may (c.in_ok-answer.ensures lattices [] c.in_ok-words.ensures) in
     let is = subst (IsOneMore false lattices 1 (codes "generated.c") bytes [] marks) c.in-Units.is one in
     record { before = (1 + 1, is.0 ∷ [], is.2) }
 
@@ -68,10 +73,11 @@ returns-clause-outcome c = λ read.
     let marks = c.nothing_before.result.prelude in
     let test = c.if-bytes-gt-SOURCE_LIMIT.false in
     let within : length bytes ≤ source_limit = omega arith in
-    let may : IsEarlier 1 [] c.nothing_before.result = record { are = c.nothing_before.ensures.units; may = nothing_earlier 1 } in
+    let may : IsEarlier 1 [] c.nothing_before.result =
+    record { are = c.nothing_before.ensures.units; may = nothing_earlier 1 } in
     let one =
-    at_number false lattices 1 c.new-unit.result (codes "generated.c") bytes [] marks c.nothing_before.result c.in_ok-answer.field-0
-    c.new-unit.ensures may (c.in_ok-answer.ensures lattices [] c.in_ok-words.ensures) in
+    at_number false lattices 1 c.new-unit.result (codes "generated.c") bytes [] marks c.nothing_before.result
+    c.in_ok-answer.field-0 c.new-unit.ensures may (c.in_ok-answer.ensures lattices [] c.in_ok-words.ensures) in
     let is = subst (IsOneMore false lattices 1 (codes "generated.c") bytes [] marks) c.in-Units.is one in
     IfOk-weaker c.of_units.result _ _ (λ answer of. of_its_bytes number lattices bytes _ _ c.requires read of)
     (c.of_units.ensures.outcome (1 + 1) is.0 is.2 (is.3 ∙ c.nothing_before.ensures.prelude) bytes within is.1)

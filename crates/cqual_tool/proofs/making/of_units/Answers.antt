@@ -22,8 +22,10 @@ returns-in-Refused-clause-outcome c = λ count unit earlier none bytes within pa
     let names = names_in c.made_names.result in
     let lattices = c.args.lattices.now in
     let marks = c.args.earlier.prelude in
-    made_refused c.args.number lattices bytes within unit parses names marks c.in-Refused.answer c.made_names.ensures none
-    (subst (IsPrepared names lattices marks (unit ∷ [])) c.in-Refused.is (c.in_ok-answer.ensures count (unit ∷ []) earlier))
+    made_refused c.args.number lattices bytes within unit parses names marks c.in-Refused.answer
+    c.made_names.ensures none
+    (subst (IsPrepared names lattices marks (unit ∷ [])) c.in-Refused.is
+    (c.in_ok-answer.ensures count (unit ∷ []) earlier))
 
 -- the answer that refuses the made unit is malformed, and so decided
 pub returns-in-Refused-clause-decided : goal.returns-in-Refused-clause-decided
@@ -44,7 +46,8 @@ returns-in-Program-clause-outcome c = λ count unit earlier none bytes within pa
     let marks = c.args.earlier.prelude in
     let ready = c.in-Program.ready in
     let is = made_ready number lattices bytes within unit parses names marks ready c.made_names.ensures none
-    (subst (IsPrepared names lattices marks (unit ∷ [])) c.in-Program.is (c.in_ok-answer.ensures count (unit ∷ []) earlier)) in
+    (subst (IsPrepared names lattices marks (unit ∷ [])) c.in-Program.is
+    (c.in_ok-answer.ensures count (unit ∷ []) earlier)) in
     IfOk-weaker c.of_program.result _ _
     (λ answer sum. made_summed number lattices bytes within unit parses ready answer.status answer.text.items is sum)
     (c.of_program.ensures.sum (unit ∷ []) is)

@@ -14,7 +14,8 @@ returns-clause-sum c = λ it shows system.
       errors = c.in_ok-errors.errors;
     } in
     summed_as c.args.number c.in_ok-errors.errors it c.args.graph.now counts _ _ system c.status_for.ensures
-    (c.in_ok-put_summary.ensures ∙ ap (λ (bytes : List ℕ). bytes ++ summary_text c.args.number counts) c.new-text.ensures.items)
+    (c.in_ok-put_summary.ensures
+    ∙ ap (λ (bytes : List ℕ). bytes ++ summary_text c.args.number counts) c.new-text.ensures.items)
     (c.count.ensures.value ∙ sym shows.count) c.len.ensures.length c.sites.ensures refl
     (c.in_ok-errors.ensures.count it.scene shows) (λ none. c.in_ok-errors.ensures.accepted none it.scene shows)
     (λ some. c.in_ok-errors.ensures.rejected some it.scene shows)

@@ -16,7 +16,8 @@ returns-in-Ok c = λ units of shaped.
     subst (λ (lexed : List Lexed). IsProgramOf units lexed c.args.program.now) (sym c.deref.ensures.value) of in
     let made = c.in-Ok.ensures.made units lent in
     let few = c.in-Ok.ensures.few_variables units lent in
-    let ready : Ready = record { tokens = c.args.tokens; made = c.in-Ok.made; functions = c.in_ok-functions-in-Ok.functions } in
+    let ready : Ready =
+    record { tokens = c.args.tokens; made = c.in-Ok.made; functions = c.in_ok-functions-in-Ok.functions } in
     let functions = c.in_ok-functions-in-Ok.ensures ∙ ap functions_in of.named in
     record {
       counted = record {
@@ -27,7 +28,8 @@ returns-in-Ok c = λ units of shaped.
       differ = of.differ;
       units_are = of.lexed;
       made = made;
-      externals = held c.args.lattices.now c.args.prelude.now units ready of.lexed functions made few c.externals_are_held.ensures;
+      externals = held c.args.lattices.now c.args.prelude.now units ready of.lexed functions made few
+          c.externals_are_held.ensures;
       signs = may_sign c.args.lattices.now c.args.prelude.now units ready of.lexed functions made few of.read of.differ
           c.skeletons_are_in_order.ensures c.owned_apart.ensures c.externals_are_held.ensures;
       owned = c.in-Ok.ensures.owned units lent;

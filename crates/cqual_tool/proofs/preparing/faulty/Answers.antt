@@ -12,7 +12,7 @@ use Rattle.cqual_tool.proofs.preparing.faulty.Goals as goal
 pub returns-clause-line : goal.returns-clause-line
 returns-clause-line c =
     let named = names_in c.args.named.now in
-    subst (λ (us : List UnitText). IfOk c.names_refused.result (Says Malformed (shape_line (last_of named.sources) us c.args.fault)))
-    (ap scenes.units_of c.deref.ensures.value ∙ c.in_ok-units.ensures)
-    (subst (λ (file : List ℕ). IfOk c.names_refused.result (Says Malformed (shape_line file (scenes.units_of c.deref.result.now) c.args.fault)))
-    c.last_file.ensures c.names_refused.ensures.line)
+    subst (λ (us : List UnitText). IfOk c.names_refused.result
+    (Says Malformed (shape_line (last_of named.sources) us c.args.fault))) (ap scenes.units_of c.deref.ensures.value
+    ∙ c.in_ok-units.ensures) (subst (λ (file : List ℕ). IfOk c.names_refused.result (Says Malformed (shape_line file
+    (scenes.units_of c.deref.result.now) c.args.fault))) c.last_file.ensures c.names_refused.ensures.line)

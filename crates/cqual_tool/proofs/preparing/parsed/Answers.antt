@@ -9,7 +9,8 @@ pub returns-in-Ok : goal.returns-in-Ok
 returns-in-Ok c = λ wide lattices number bytes before earlier lexes.
     let taped = c.in-Ok.ensures.tape in
     let unit : UnitRead = record { lexed = c.args.tokens; items = taped.items } in
-    c.added.ensures wide lattices number c.args.file.now bytes before unit earlier (record { lexed_is = refl; taped = taped.taped })
+    c.added.ensures wide lattices number c.args.file.now bytes before unit earlier
+    (record { lexed_is = refl; taped = taped.taped })
     (record { lexes = lexes; formed = taped.formed })
 
 -- the line of tokens of no well-formed unit is that of a source that is refused

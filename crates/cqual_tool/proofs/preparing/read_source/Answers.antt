@@ -25,4 +25,5 @@ returns c = λ lattices before mean earlier.
       refused = c.in-Err.ensures.refused;
       reason = said.reason;
     } in
-    refused (SourceRefused c.args.wide lattices c.args.unit c.args.file.now c.args.bytes.now) _ c.in_ok-source_refused-in-Err.field-0 said.line (Unspelled fault fails)
+    refused (SourceRefused c.args.wide lattices c.args.unit c.args.file.now c.args.bytes.now) _
+    c.in_ok-source_refused-in-Err.field-0 said.line (Unspelled fault fails)

@@ -23,7 +23,8 @@ loop-it-preserved c =
     let it = c.it-item.result in
     let test = c.loop-it-test.true in
     let within : i < length all = omega arith in
-    let same = ap (λ (name : List ℕ). record { file = name; lexed = it }) (c.file_name.ensures ∙ ap (file_of named) c.unit.ensures) in
+    let same = ap (λ (name : List ℕ). record { file = name; lexed = it })
+    (c.file_name.ensures ∙ ap (file_of named) c.unit.ensures) in
     ap (λ (us : List LentUnit). scenes.units_of us ++ texts_of named (drop (i + 1) all)) c.in_ok-push.ensures.items
     ∙ texts_on named all i it c.loop-it.units.items _ same c.it-item.is within
     ∙ c.loop-it.invariant

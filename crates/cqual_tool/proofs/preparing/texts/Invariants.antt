@@ -6,4 +6,5 @@ use Rattle.cqual_tool.proofs.preparing.texts.Given as goal
 
 abbrev pub invariant-loop-it : goal.invariant-loop-it
 invariant-loop-it l =
-    scenes.units_of l.units.items ++ texts_of (names_in l.named) (drop l.it-index l.tokens) ≡ texts_of (names_in l.named) l.tokens
+    scenes.units_of l.units.items
+    ++ texts_of (names_in l.named) (drop l.it-index l.tokens) ≡ texts_of (names_in l.named) l.tokens

@@ -15,14 +15,16 @@ end-requires g c =
     let marks = c.args.earlier.prelude in
     let units = c.requires.before.1 in
     let is : IsReady named lattices marks units c.in-Program.ready =
-    subst (IsPrepared named lattices marks units) c.in-Program.is (c.in_ok-answer.ensures c.requires.before.0 units c.requires.before.2) in
+    subst (IsPrepared named lattices marks units) c.in-Program.is
+    (c.in_ok-answer.ensures c.requires.before.0 units c.requires.before.2) in
     record { named = is.within; owned = is.owned; elements = is.elements; signs = is.signs }
 
 -- where memory is wanting to prepare the program, nothing is read behind the sources
 pub returns-in_err-answer-clause-reads : goal.returns-in_err-answer-clause-reads
 returns-in_err-answer-clause-reads g c = λ number left units earlier.
     let gives = err_from_is_err_and c.from_residual.result c.from_residual.ensures.1 in
-    rw (gives.1, gives.2) (program_lacks _ (names_in c.args.named.now) c.args.lattices.now units c.args.earlier.prelude number left)
+    rw (gives.1, gives.2)
+    (program_lacks _ (names_in c.args.named.now) c.args.lattices.now units c.args.earlier.prelude number left)
 
 -- the line that refuses the units is the answer behind the sources
 pub returns-in-Refused-clause-reads : goal.returns-in-Refused-clause-reads
@@ -49,7 +51,8 @@ returns-in-Program-clause-reads g c = λ number left units earlier.
 pub returns-in-Refused-clause-decided : goal.returns-in-Refused-clause-decided
 returns-in-Refused-clause-decided g c =
     let units = c.requires.before.1 in
-    let is : IsPrepared (names_in c.args.named.now) c.args.lattices.now c.args.earlier.prelude units (Refused c.in-Refused.answer) =
+    let is : IsPrepared (names_in c.args.named.now) c.args.lattices.now c.args.earlier.prelude units
+    (Refused c.in-Refused.answer) =
     subst (IsPrepared (names_in c.args.named.now) c.args.lattices.now c.args.earlier.prelude units) c.in-Refused.is
     (c.in_ok-answer.ensures c.requires.before.0 units c.requires.before.2) in
     subst IsDecided (sym is.0) tt

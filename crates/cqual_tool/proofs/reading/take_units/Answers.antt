@@ -1,7 +1,7 @@
 use Rattle.std.proofs.Common.{[], refl, ap}
 use Rattle.std.specs.Option.{option_map}
 use Rattle.std.proofs.lemmas.Result.{err_from_is_err_and}
-use Rattle.cqual_tool.specs.declared.taking.Stop.TheVariants.{NoMemory}
+use Rattle.cqual_tool.specs.declared.taking.Failure.TheVariants.{NoMemory}
 use Rattle.cqual_tool.specs.Words.{names_in}
 use Rattle.cqual_tool.specs.Outcome.{total_limit}
 use Rattle.cqual_tool.specs.Preparing.{IsEarlier}
@@ -15,9 +15,11 @@ returns-clause-reads g c =
     let named = names_in c.args.named.now in
     let lattices = c.args.lattices.now in
     let none = ap (option_map (λ name. name.now)) c.in-None.is in
-    let earlier : IsEarlier 1 [] c.nothing_before.result = record { are = c.nothing_before.ensures.units; may = nothing_earlier 1 } in
+    let earlier : IsEarlier 1 [] c.nothing_before.result =
+    record { are = c.nothing_before.ensures.units; may = nothing_earlier 1 } in
     no_prelude _ _ named lattices none c.requires.some c.take_sources.result
-    (at_marks _ _ named lattices [] _ [] 1 total_limit named.sources c.take_sources.result c.nothing_before.ensures.prelude
+    (at_marks _ _ named lattices [] _
+    [] 1 total_limit named.sources c.take_sources.result c.nothing_before.ensures.prelude
     (c.take_sources.ensures.reads [] earlier))
 
 pub take_sources-requires-clause-before : goal.take_sources-requires-clause-before

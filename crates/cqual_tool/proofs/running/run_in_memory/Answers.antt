@@ -7,8 +7,8 @@ use Rattle.cqual_tool.proofs.running.run_in_memory.Goals as goal
 -- the readings of files in memory are of their contents by the words
 pub returns-clause-reads : goal.returns-clause-reads
 returns-clause-reads c =
-    reads_told c.args.files.now.files (map string_bytes c.args.words.now) (since c.args.files.now.log c.run.new.files.log)
-    c.run.ensures.there c.run.ensures.agrees
+    reads_told c.args.files.now.files (map string_bytes c.args.words.now)
+    (since c.args.files.now.log c.run.new.files.log) c.run.ensures.there c.run.ensures.agrees
 
 -- an answer over files in memory is that of their contents, and its text is written behind what was there
 pub returns-clause-outcome : goal.returns-clause-outcome

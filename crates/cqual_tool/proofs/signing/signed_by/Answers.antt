@@ -16,7 +16,8 @@ returns-in-Ok-clause-signed c =
     (accepted_of _ c.in-Ok.found
     (both_of c.in-Ok.found c.in-Ok.ensures.lines c.in-Ok.ensures.accepted
     (λ text lines accepted it shows system library.
-    signed_as it sys lattices shows.lattices system got (externals_by c.args.library.now) library c.requires.suits one accepted text.items lines)))
+    signed_as it sys lattices shows.lattices system got
+    (externals_by c.args.library.now) library c.requires.suits one accepted text.items lines)))
 
 pub returns-in-Ok-clause-decided : goal.returns-in-Ok-clause-decided
 returns-in-Ok-clause-decided c = rw c.written.ensures (all_decided c.in-Ok.found)
@@ -40,8 +41,8 @@ returns-in_ok-refused-in-Err-clause-signed c = λ it shows system library.
     subst (λ n. slice_get c.args.scene.now.lattices.now n ≡ Some got) c.new.ensures c.get.ensures in
     let said = c.in_ok-refused-in-Err in
     refused_as it sys lattices shows.lattices system got (externals_by c.args.library.now) library c.requires.suits
-    (one_lattice sys lattices got c.requires.suits there) (c.in-Err.ensures.accepted_too said.ensures.reason) c.in-Err.fault said.field-0
-    c.in-Err.ensures.fault (said.ensures.line it.scene shows)
+    (one_lattice sys lattices got c.requires.suits there) (c.in-Err.ensures.accepted_too said.ensures.reason)
+    c.in-Err.fault said.field-0 c.in-Err.ensures.fault (said.ensures.line it.scene shows)
 
 pub returns-in_ok-refused-in-Err-clause-rejected : goal.returns-in_ok-refused-in-Err-clause-rejected
 returns-in_ok-refused-in-Err-clause-rejected c = λ none. absurd (not_none c.in_ok-refused-in-Err.field-0 none)

@@ -5,4 +5,5 @@ use Rattle.cqual_words.proofs.words.have_meaning.Given as goal
 
 abbrev pub invariant-loop-text : goal.invariant-loop-text
 invariant-loop-text l =
-    list_all has_meaning (map (λ s. s.now) (drop l.text-index l.texts)) ≡ list_all has_meaning (map (λ s. s.now) l.texts)
+    list_all has_meaning (map (λ s. s.now) (drop l.text-index l.texts))
+    ≡ list_all has_meaning (map (λ s. s.now) l.texts)

@@ -20,7 +20,8 @@ pub returns : goal.returns
 returns c =
     let words = map (λ s. string_bytes s) c.args.words.now in
     record {
-      meaning = refusal_right words c.in-Err.error c.in-Err.ensures.kinds (λ e. c.in_default.not-OutOfMemory (c.kind.ensures
+      meaning =
+          refusal_right words c.in-Err.error c.in-Err.ensures.kinds (λ e. c.in_default.not-OutOfMemory (c.kind.ensures
           ∙ e));
       made = tt;
       sources = tt;

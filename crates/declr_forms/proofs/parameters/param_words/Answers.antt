@@ -7,5 +7,6 @@ use Rattle.declr_forms.proofs.parameters.param_words.Goals as goal
 pub returns-in-len1-up : goal.returns-in-len1-up
 returns-in-len1-up g c =
     let some : 1 ≤ length c.args.known.words.items = rw c.as_slice.ensures.value at c.in-len1-up.len_at_least in
-    rw (words_behind (knot c.args.depth) c.args.known.words.items c.args.room c.args.place.now.scopes c.args.place.now.rest.now some)
+    rw (words_behind
+    (knot c.args.depth) c.args.known.words.items c.args.room c.args.cursor.now.scopes c.args.cursor.now.rest.now some)
     (rw c.saturating_sub-inner.ensures at c.specs_inside.ensures)

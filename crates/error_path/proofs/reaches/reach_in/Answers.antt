@@ -9,6 +9,7 @@ use Rattle.flow_graph.specs.System.{AllBelow}
 use Rattle.error_path.proofs.Found.{sound_below}
 use Rattle.error_path.proofs.reaches.reach_in.Goals as goal
 
+-- each variable in the queue of the search is below the number of places
 pub set_firsts-requires-clause-below : goal.set_firsts-requires-clause-below
 set_firsts-requires-clause-below c =
     let sys = c.args.graph.now in
@@ -18,7 +19,8 @@ set_firsts-requires-clause-below c =
     let Room : ℕ → Type 0 = λ k. HasRoom c.args.origin k in
     let Of : List Reached → Type 0 = λ xs. AreBelow vars xs in
     subst Of (sym c.as_slice.ensures.value)
-    (sound_below sys c.args.lattice vars c.args.origin c.args.summaries.now c.in_ok-search.search.queue.items (subst Below (sym size) c.requires.room.vars)
+    (sound_below sys c.args.lattice vars c.args.origin c.args.summaries.now c.in_ok-search.search.queue.items
+    (subst Below (sym size) c.requires.room.vars)
     (subst Room (sym size) c.requires.origin) c.in_ok-search.ensures.good.sound)
 
 -- the places that were set
@@ -29,6 +31,7 @@ firsts_same : (c : goal.In_ok-set_firsts)
     → (with_items c.args.room.firsts c.set_firsts.new.firsts).items ≡ c.set_firsts.new.firsts
 firsts_same c = with_items_is c.args.room.firsts c.set_firsts.new.firsts (size_same c ∙ sym c.args.room.firsts.ok.0)
 
+-- what a search in a room found is sound and whole and has its first places
 pub returns-clause-found : goal.returns-clause-found
 returns-clause-found c = record {
   rows = c.args.summaries.now;
@@ -41,6 +44,7 @@ returns-clause-found c = record {
       subst At (sym (firsts_same c)) (subst Of c.as_slice.ensures.value c.in_ok-set_firsts.ensures.firsts);
 }
 
+-- what was found stands in a room for the system, in which only it is marked
 pub returns-clause-room : goal.returns-clause-room
 returns-clause-room c = record {
   vars = c.in_ok-search.ensures.good.below;

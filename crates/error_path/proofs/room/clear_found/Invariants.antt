@@ -3,6 +3,7 @@ use Rattle.error_path.specs.Marks.{size_of}
 use Rattle.error_path.proofs.Rooming.{AreIn, ArePlaced}
 use Rattle.error_path.proofs.room.clear_found.Given as goal
 
+-- all that is still marked or has a place is in what is left of the queue; the sizes are the first ones
 abbrev pub invariant-loop-reached : goal.invariant-loop-reached
 invariant-loop-reached l = record {
   marked : AreIn l.marks l.queue.items;

@@ -4,6 +4,7 @@ use Rattle.error_path.specs.Reaches.{StandsIn}
 use Rattle.error_path.specs.Rooms.{nowhere}
 use Rattle.error_path.proofs.room.set_firsts.Given as goal
 
+-- a place that is set is one of its variable in the queue, and each variable before this place has one
 abbrev pub invariant-loop-place : goal.invariant-loop-place
 invariant-loop-place l = record {
   size : length l.firsts ≡ length l.fn.firsts;

@@ -10,8 +10,9 @@ use Rattle.expr_rows.proofs.expression.operations.Given as goal
 -- the row so far, with the operators read from here on, is what the whole loop gives from its first operand
 abbrev pub invariant-loop-row : goal.invariant-loop-row
 invariant-loop-row g l =
-    run (operation_turn (knot l.depth) l.reach l.room) (row_of l.row) l.place.scopes l.place.rest.now
-    ≡ run (operation_turn (knot l.depth) l.reach l.room) (record { waiting = bottom; last = expr l.fn.first }) l.fn.place.scopes l.fn.place.rest.now
+    run (operation_turn (knot l.depth) l.reach l.room) (row_of l.row) l.cursor.scopes l.cursor.rest.now
+    ≡ run (operation_turn (knot l.depth) l.reach l.room)
+    (record { waiting = bottom; last = expr l.fn.first }) l.fn.cursor.scopes l.fn.cursor.rest.now
 
 abbrev pub decreases-loop-row : goal.decreases-loop-row
-decreases-loop-row g l = length l.place.rest.now
+decreases-loop-row g l = length l.cursor.rest.now

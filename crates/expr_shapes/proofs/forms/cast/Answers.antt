@@ -6,6 +6,7 @@ use Rattle.name_rules.specs.ShapeSteps.State as states
 use Rattle.expr_shapes.specs.ShapeStacks.Views.{state_in}
 use Rattle.expr_shapes.proofs.forms.cast.Goals as goal
 
+-- a cast leaves a value of the type named, and stays a zero where the type is plain `void *` and the operand one
 pub returns : goal.returns
 returns c =
     let rows = c.args.types.now in let st = state_in rows c.args.stacks.now in

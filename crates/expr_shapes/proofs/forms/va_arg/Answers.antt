@@ -6,6 +6,7 @@ use Rattle.name_rules.specs.ShapeSteps.State as states
 use Rattle.expr_shapes.specs.ShapeStacks.Views.{state_in}
 use Rattle.expr_shapes.proofs.forms.va_arg.Goals as goal
 
+-- a `va_arg` leaves a value of the type on top in place of that and the list
 pub returns : goal.returns
 returns c =
     on_ok_weaker c.put.result (λ put rows u s token last. put rows

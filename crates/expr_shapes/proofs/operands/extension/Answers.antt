@@ -5,6 +5,7 @@ use Rattle.name_rules.specs.ShapeSteps.State as states
 use Rattle.expr_shapes.specs.ShapeStacks.Views.{state_in}
 use Rattle.expr_shapes.proofs.operands.extension.Goals as goal
 
+-- `__extension__` leaves the shape of its operand, no longer as a zero
 pub returns : goal.returns
 returns c =
     on_ok_weaker c.put.result (λ put rows u s token. put rows

@@ -6,6 +6,7 @@ use Rattle.name_rules.specs.ShapeSteps.State as states
 use Rattle.expr_shapes.specs.ShapeStacks.Views.{state_in}
 use Rattle.expr_shapes.proofs.operators.assign.Goals as goal
 
+-- an assignment leaves what it makes of its left operand in place of both
 pub returns : goal.returns
 returns c =
     on_ok_weaker c.put.result (λ put rows u s sign token first last. put rows

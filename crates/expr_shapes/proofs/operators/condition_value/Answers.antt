@@ -6,6 +6,7 @@ use Rattle.name_rules.specs.ShapeSteps.State as states
 use Rattle.expr_shapes.specs.ShapeStacks.Views.{state_in}
 use Rattle.expr_shapes.proofs.operators.condition_value.Goals as goal
 
+-- the value of a condition is of the common type of its last two operands, by which of them is a zero
 pub returns : goal.returns
 returns c =
     let rows = c.args.types.now in let st = state_in rows c.args.stacks.now in

@@ -7,6 +7,7 @@ use Rattle.expr_shapes.specs.ShapeStacks.Views.{state_in}
 use Rattle.expr_shapes.proofs.Choosing.{vector_shape}
 use Rattle.expr_shapes.proofs.operators.index.Goals as goal
 
+-- an index into a number in wider C leaves the number's shape in place of both
 pub returns-then-is_vector_index : goal.returns-then-is_vector_index
 returns-then-is_vector_index c =
     let rows = c.args.types.now in

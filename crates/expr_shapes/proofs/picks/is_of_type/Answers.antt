@@ -6,6 +6,7 @@ use Rattle.name_rules.specs.ShapeSteps.Steps.{twice}
 use Rattle.expr_shapes.specs.ShapeStacks.Views.{state_in}
 use Rattle.expr_shapes.proofs.picks.is_of_type.Goals as goal
 
+-- where the control has a type, an association is for it as the rules say of its own type
 pub returns-in-Some : goal.returns-in-Some
 returns-in-Some c =
     let rows = c.args.types.now in

@@ -10,6 +10,7 @@ use Rattle.expr_shapes.proofs.picks.selected.Goals as goal
 pub loop-left-init : goal.loop-left-init
 loop-left-init c = ([], c.new-picked.ensures c.args.types.now, refl)
 
+-- once no association is left, the candidates are those that a selection by the control's type has
 pub returns : goal.returns
 returns c = λ t is.
     let rows = c.args.types.now in

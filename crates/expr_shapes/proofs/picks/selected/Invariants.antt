@@ -7,6 +7,7 @@ use Rattle.expr_shapes.specs.ShapeValues.Picks.{IsPicked}
 use Rattle.expr_shapes.specs.Selecting.{picked_on}
 use Rattle.expr_shapes.proofs.picks.selected.Given as goal
 
+-- the candidates so far, with those of the associations left, are those of all associations
 abbrev pub invariant-loop-left : goal.invariant-loop-left
 invariant-loop-left l =
     (all : List Candidate) × IsPicked l.types all l.picked

@@ -13,5 +13,6 @@ abbrev pub invariant-loop-op : goal.invariant-loop-op
 invariant-loop-op l = (at : Place) →
     or_else (found_at l.types l.found at) (first_at (shapes_along (spelling_of l.spelling) (names_in l.types l.names)
     (state_in l.types l.stacks) (drop l.op-index l.tape)) at)
-    ≡ or_else (found_at l.types l.initial.found at) (first_at (shapes_along (spelling_of l.spelling) (names_in l.types l.names)
+    ≡ or_else (found_at l.types l.initial.found at)
+    (first_at (shapes_along (spelling_of l.spelling) (names_in l.types l.names)
     (state_in l.types l.initial.stacks) l.tape) at)

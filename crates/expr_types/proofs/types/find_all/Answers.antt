@@ -21,7 +21,8 @@ loop-unit-preserved c = λ at.
     let behind = shapes_among s (drop (i + 1) (tapes_of c.args.units.now)) in
     goes_on known added (shapes_along unit.spelling s nothing unit.ops) behind at
     (c.in_ok-find_unit.ensures at
-    ∙ ap (λ (ops : List Op). or_else known (first_at (shapes_along unit.spelling s nothing ops) at)) c.deref.ensures.value)
+    ∙ ap
+    (λ (ops : List Op). or_else known (first_at (shapes_along unit.spelling s nothing ops) at)) c.deref.ensures.value)
     ∙ ap (λ (it : List Keyed). or_else known (first_at it at))
     (next_unit s c.args.units.now i c.unit-item.result c.unit-item.is c.loop-unit-test.true)
     ∙ c.loop-unit.invariant at

@@ -9,7 +9,8 @@ use Rattle.flow_query.proofs.answers.answer_who.Goals as goal
 pub returns-then-is_empty : goal.returns-then-is_empty
 returns-then-is_empty c = λ s shows.
     let none : c.in_ok-vars.vars.len ≡ 0 = grind arith in
-    no_name s c.args.graph.now c.args.name.now c.in_ok-vars.vars.items (c.in_ok-vars.ensures s shows) (sym c.in_ok-vars.vars.ok.0 ∙ none)
+    no_name s c.args.graph.now c.args.name.now c.in_ok-vars.vars.items (c.in_ok-vars.ensures s shows)
+    (sym c.in_ok-vars.vars.ok.0 ∙ none)
 
 -- the solutions and the ends of the graph are what `answer_found` requires of each lattice
 pub answer_found-requires-clause-found : goal.answer_found-requires-clause-found
@@ -18,9 +19,12 @@ answer_found-requires-clause-found c =
     let solutions = c.in_ok-solutions.ensures in
     record {
       owned = c.requires.owned;
-      each = λ n solution there. solutions.each n solution (subst (λ (list : List Solved). slice_get list n ≡ Some solution) c.as_slice.ensures.value there);
-      ends = subst (λ n. AllEnds sys n c.as_slice-2.result.now) (sym (ap (λ (list : List Solved). length list) c.as_slice.ensures.value ∙ solutions.count))
-          (subst (λ (ends : List Ends). AllEnds sys (length c.args.scene.now.lattices.now) ends) (sym c.as_slice-2.ensures.value) c.in_ok-ends.ensures);
+      each = λ n solution there. solutions.each n solution
+          (subst (λ (list : List Solved). slice_get list n ≡ Some solution) c.as_slice.ensures.value there);
+      ends = subst (λ n. AllEnds sys n c.as_slice-2.result.now)
+          (sym (ap (λ (list : List Solved). length list) c.as_slice.ensures.value ∙ solutions.count))
+          (subst (λ (ends : List Ends). AllEnds sys (length c.args.scene.now.lattices.now) ends)
+          (sym c.as_slice-2.ensures.value) c.in_ok-ends.ensures);
     }
 
 -- the text of the variables, behind the line `who`, is the answer for the name

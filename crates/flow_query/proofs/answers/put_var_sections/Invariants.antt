@@ -7,5 +7,6 @@ use Rattle.flow_query.proofs.answers.put_var_sections.Given as goal
 abbrev pub invariant-loop-n : goal.invariant-loop-n
 invariant-loop-n l = record {
   finder : IsFinder l.found.graph.now l.finder;
-  text : WritesSome l.scene l.fn.out.items l.out.items (λ s text. EachBelow (SectionText s l.found.graph.now l.var) l.n text);
+  text : WritesSome l.scene l.fn.out.items l.out.items
+      (λ s text. EachBelow (SectionText s l.found.graph.now l.var) l.n text);
 }

@@ -8,5 +8,6 @@ use Rattle.flow_query.proofs.answers.put_vars.Given as goal
 abbrev pub invariant-loop-var : goal.invariant-loop-var
 invariant-loop-var l = record {
   finder : IsFinder l.found.graph.now l.finder;
-  text : WritesSome l.scene l.fn.out.items l.out.items (λ s text. VarsText s l.found.graph.now (take l.var-index l.vars) text);
+  text : WritesSome l.scene l.fn.out.items l.out.items
+      (λ s text. VarsText s l.found.graph.now (take l.var-index l.vars) text);
 }

@@ -10,7 +10,8 @@ loop-n-init c = no_ends c.args.graph.now c.new-ends.result.items c.new-ends.ensu
 pub loop-n-preserved : goal.loop-n-preserved
 loop-n-preserved c =
     let Own : ℕ → Type 0 = λ l. AreEnds c.args.graph.now l c.in_ok-ends_of.field-0 in
-    next_ends c.args.graph.now c.loop-n.n c.loop-n.ends.items c.push.new.self.items c.in_ok-ends_of.field-0 c.in_ok-push.ensures.items
+    next_ends c.args.graph.now c.loop-n.n c.loop-n.ends.items c.push.new.self.items c.in_ok-ends_of.field-0
+    c.in_ok-push.ensures.items
     (subst Own c.new.ensures c.in_ok-ends_of.ensures) c.loop-n.invariant
 
 -- behind the last lattice there are the ends of each

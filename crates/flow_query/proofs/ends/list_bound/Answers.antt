@@ -10,7 +10,8 @@ pub returns-in-None : goal.returns-in-None
 returns-in-None c = λ those.
     let sys = c.args.graph.now in
     let Is : ℕ → Type 0 = λ n. IsBound sys c.args.lattice n in
-    those_same Is c.args.number c.args.bounds.now.items those (is_no_bound sys c.args.lattice c.args.number c.constraint.result c.constraint.ensures.there c.in-None.ensures)
+    those_same Is c.args.number c.args.bounds.now.items those
+    (is_no_bound sys c.args.lattice c.args.number c.constraint.result c.constraint.ensures.there c.in-None.ensures)
 
 -- a constraint that is a bound, at the end of the list, makes it that of the bounds up to it
 pub returns-in_ok-push-in-Some : goal.returns-in_ok-push-in-Some
@@ -19,5 +20,7 @@ returns-in_ok-push-in-Some c = λ those.
     let Is : ℕ → Type 0 = λ n. IsBound sys c.args.lattice n in
     let Of : List ℕ → Type 0 = λ numbers. AreThoseBelow Is (c.args.number + 1) numbers in
     let bound = c.in-Some.field-0 in
-    let own = bound_stands sys c.args.lattice c.args.number c.constraint.result c.constraint.ensures.there bound.elem bound.at c.in-Some.ensures in
-    subst Of (sym c.in_ok-push-in-Some.ensures.items) (those_push Is c.args.number c.args.bounds.now.items those (bound.at, own.0, own.1))
+    let own = bound_stands sys c.args.lattice c.args.number c.constraint.result c.constraint.ensures.there bound.elem
+    bound.at c.in-Some.ensures in
+    subst Of (sym c.in_ok-push-in-Some.ensures.items)
+    (those_push Is c.args.number c.args.bounds.now.items those (bound.at, own.0, own.1))

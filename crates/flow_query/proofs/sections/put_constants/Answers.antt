@@ -16,7 +16,8 @@ loop-number-init c =
     record {
       low = omega arith;
       text = none_of c.args.scene.now c.args.out.now.items
-          (λ s text. EachBelow (FromText s section.graph.now section.lattice section.var) 0 text) (λ s shows. NoneBelow);
+          (λ s text. EachBelow (FromText s section.graph.now section.lattice section.var) 0 text)
+          (λ s shows. NoneBelow);
     }
 
 -- a constant of the list is a constraint of the graph, as `put_from` requires
@@ -28,7 +29,8 @@ put_from-requires-clause-number c =
     let Of : List ℕ → Type 0 = λ numbers. AreThose (IsConstant sys section.lattice) numbers in
     let those = subst Of (sym c.as_slice-constants.ensures.value) c.requires.section.ends.constants in
     constant_low sys section.lattice c.number-item.result
-    (item_has (IsConstant sys section.lattice) items those c.loop-number.number-index c.number-item.result (omega arith) c.number-item.is)
+    (item_has (IsConstant sys section.lattice) items those c.loop-number.number-index c.number-item.result
+    (omega arith) c.number-item.is)
 
 -- what is written of one constant more comes behind the text of the constraints before it
 pub loop-number-preserved : goal.loop-number-preserved
@@ -42,11 +44,13 @@ loop-number-preserved c =
     let test = c.loop-number-test.true in
     record {
       low = omega (arith, test);
-      text = then_some (λ s text. EachBelow (FromText s sys section.lattice section.var) (from_place items (place + 1)) text)
+      text = then_some
+          (λ s text. EachBelow (FromText s sys section.lattice section.var) (from_place items (place + 1)) text)
           c.loop-number.invariant.text c.in_ok-put_from.ensures
           (λ s shows text here before next.
           next_of (FromText s sys section.lattice section.var) (IsConstant sys section.lattice) items those
-          (no_from_text s sys section.lattice section.var) place c.number-item.result text here (omega arith) c.number-item.is before next);
+          (no_from_text s sys section.lattice section.var) place c.number-item.result text here
+          (omega arith) c.number-item.is before next);
     }
 
 -- behind the last constant the text is that of all constraints
@@ -64,4 +68,5 @@ returns c =
     as_some (λ s text. FromsText s sys section.lattice section.var text) c.loop-number.invariant.text
     (λ s shows text each.
     all_of (FromText s sys section.lattice section.var) (IsConstant sys section.lattice) items those
-    (no_from_text s sys section.lattice section.var) place (length sys.constraints) text end (constant_low sys section.lattice) each)
+    (no_from_text s sys section.lattice section.var) place (length sys.constraints) text end
+    (constant_low sys section.lattice) each)

@@ -9,5 +9,6 @@ abbrev pub invariant-loop-number : goal.invariant-loop-number
 invariant-loop-number l = record {
   low : l.number-index ≤ length l.constants;
   text : WritesSome l.scene l.fn.out.items l.out.items
-      (λ s text. EachBelow (FromText s l.section.graph.now l.section.lattice l.section.var) (from_place l.constants l.number-index) text);
+      (λ s text. EachBelow (FromText s l.section.graph.now l.section.lattice l.section.var)
+      (from_place l.constants l.number-index) text);
 }

@@ -29,7 +29,8 @@ put_to-requires-clause-number c =
     let Of : List ℕ → Type 0 = λ numbers. AreThose (IsBound sys section.lattice) numbers in
     let those = subst Of (sym c.as_slice-bounds.ensures.value) c.requires.section.ends.bounds in
     bound_low sys section.lattice c.number-item.result
-    (item_has (IsBound sys section.lattice) items those c.loop-number.number-index c.number-item.result (omega arith) c.number-item.is)
+    (item_has (IsBound sys section.lattice) items those c.loop-number.number-index c.number-item.result
+    (omega arith) c.number-item.is)
 
 -- what is written of one bound more comes behind the text of the constraints before it
 pub loop-number-preserved : goal.loop-number-preserved
@@ -43,11 +44,13 @@ loop-number-preserved c =
     let test = c.loop-number-test.true in
     record {
       low = omega (arith, test);
-      text = then_some (λ s text. EachBelow (ToText s sys section.lattice section.var) (from_place items (place + 1)) text)
+      text =
+          then_some (λ s text. EachBelow (ToText s sys section.lattice section.var) (from_place items (place + 1)) text)
           c.loop-number.invariant.text c.in_ok-put_to.ensures
           (λ s shows text here before next.
           next_of (ToText s sys section.lattice section.var) (IsBound sys section.lattice) items those
-          (no_to_text s sys section.lattice section.var) place c.number-item.result text here (omega arith) c.number-item.is before next);
+          (no_to_text s sys section.lattice section.var) place c.number-item.result text here
+          (omega arith) c.number-item.is before next);
     }
 
 -- behind the last bound the text is that of all constraints
@@ -65,7 +68,8 @@ returns-clause-text c =
     as_some (λ s text. TosText s sys section.lattice section.var text) c.loop-number.invariant.text
     (λ s shows text each.
     all_of (ToText s sys section.lattice section.var) (IsBound sys section.lattice) items those
-    (no_to_text s sys section.lattice section.var) place (length sys.constraints) text end (bound_low sys section.lattice) each)
+    (no_to_text s sys section.lattice section.var) place (length sys.constraints) text end
+    (bound_low sys section.lattice) each)
 
 -- where the lattice has no bound, no constraint gives a text behind the variable
 pub returns-then-is_empty-clause-text : goal.returns-then-is_empty-clause-text
@@ -77,7 +81,9 @@ returns-then-is_empty-clause-text c =
     let those = subst Of (sym c.as_slice-bounds.ensures.value) c.requires.section.ends.bounds in
     let end : 0 ≡ length items = sym (eqb-true (length items) 0 (sym c.is_empty.ensures ∙ c.if-is_empty.true)) in
     as_some (λ s text. TosText s sys section.lattice section.var text)
-    (none_of c.args.scene.now c.args.out.now.items (λ s text. EachBelow (ToText s sys section.lattice section.var) 0 text) (λ s shows. NoneBelow))
+    (none_of c.args.scene.now c.args.out.now.items
+    (λ s text. EachBelow (ToText s sys section.lattice section.var) 0 text) (λ s shows. NoneBelow))
     (λ s shows text each.
     all_of (ToText s sys section.lattice section.var) (IsBound sys section.lattice) items those
-    (no_to_text s sys section.lattice section.var) 0 (length sys.constraints) text end (bound_low sys section.lattice) each)
+    (no_to_text s sys section.lattice section.var) 0 (length sys.constraints) text end
+    (bound_low sys section.lattice) each)

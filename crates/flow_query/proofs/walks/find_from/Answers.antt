@@ -9,7 +9,8 @@ use Rattle.flow_query.proofs.walks.find_from.Goals as goal
 pub find_walk-requires-clause-sound : goal.find_walk-requires-clause-sound
 find_walk-requires-clause-sound c =
     let section = c.section_in-section.result in
-    moved (λ s l. AreSound s l c.loop-var.walks) c.args.found.now.graph.now section.graph.now c.args.lattice section.lattice
+    moved
+    (λ s l. AreSound s l c.loop-var.walks) c.args.found.now.graph.now section.graph.now c.args.lattice section.lattice
     (sym c.section_in-section.ensures.graph) (sym c.section_in-section.ensures.lattice) c.loop-var.invariant.sound
 
 -- the walk to one variable more keeps those to the variables so far
@@ -20,11 +21,14 @@ loop-var-preserved c =
     let told = c.in_ok-finder.ensures in
     let here = c.section_in-section.ensures in
     let At : ℕ → Type 0 = λ v. IsDone sys c.args.lattice c.find_walk.new.walks c.args.at v in
-    let stays = moved (λ s l. StaysDone s l c.loop-var.walks c.find_walk.new.walks) section.graph.now sys section.lattice c.args.lattice here.graph here.lattice told.stays in
-    let done = moved (λ s l. IsDone s l c.find_walk.new.walks c.args.at section.var) section.graph.now sys section.lattice c.args.lattice here.graph here.lattice told.done in
+    let stays = moved (λ s l. StaysDone s l c.loop-var.walks c.find_walk.new.walks) section.graph.now sys
+    section.lattice c.args.lattice here.graph here.lattice told.stays in
+    let done = moved (λ s l. IsDone s l c.find_walk.new.walks c.args.at section.var) section.graph.now sys
+    section.lattice c.args.lattice here.graph here.lattice told.done in
     record {
       finder = subst (λ (g : System). IsFinder g c.in_ok-finder.finder) here.graph told.finder;
-      sound = moved (λ s l. AreSound s l c.find_walk.new.walks) section.graph.now sys section.lattice c.args.lattice here.graph here.lattice told.sound;
+      sound = moved (λ s l. AreSound s l c.find_walk.new.walks) section.graph.now sys section.lattice c.args.lattice
+          here.graph here.lattice told.sound;
       stays = λ u v own. stays u v (c.loop-var.invariant.stays u v own);
       done = all_next At c.args.vars.now c.loop-var.var-index c.var-item.result (omega arith) c.var-item.is
           (λ v there. stays c.args.at v (c.loop-var.invariant.done v there)) (subst At here.var done);
@@ -32,4 +36,5 @@ loop-var-preserved c =
 
 pub returns-clause-done : goal.returns-clause-done
 returns-clause-done c =
-    all_taken (λ v. IsDone c.args.found.now.graph.now c.args.lattice c.loop-var.walks c.args.at v) c.args.vars.now c.loop-var.var-index c.loop-var.invariant.done (omega arith)
+    all_taken (λ v. IsDone c.args.found.now.graph.now c.args.lattice c.loop-var.walks c.args.at v) c.args.vars.now
+    c.loop-var.var-index c.loop-var.invariant.done (omega arith)

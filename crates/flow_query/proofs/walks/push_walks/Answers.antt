@@ -12,7 +12,8 @@ returns-clause-pushed c =
       c.in_ok-push.ensures.items,
       record {
         sound = c.in_ok-finder.ensures.sound;
-        done = done_for_all sys c.args.lattice c.find_all.new.walks c.args.vars.now c.in_ok-reached.reached.items c.in_ok-reached.ensures
+        done = done_for_all sys c.args.lattice c.find_all.new.walks c.args.vars.now c.in_ok-reached.reached.items
+            c.in_ok-reached.ensures
             (subst Of c.deref.ensures.value c.in_ok-finder.ensures.done);
       },
     )

@@ -11,14 +11,17 @@ is_here None there is = absurd cc
 is_here (Some n) there is = (n, is)
 
 pub show-requires-clause-lattice : goal.show-requires-clause-lattice
-show-requires-clause-lattice c = slice_get_within c.args.lattices.now c.args.solver.now.lattice c.args.lattice.now c.requires.lattice
+show-requires-clause-lattice c =
+    slice_get_within c.args.lattices.now c.args.solver.now.lattice c.args.lattice.now c.requires.lattice
 
 pub show-requires-clause-named : goal.show-requires-clause-named
 show-requires-clause-named c =
-    in_lattice c.args.lattices.now c.args.solver.now.lattice c.args.lattice.now c.requires.lattice (NamesElementsIn c.args.graph.now c.args.solver.now.lattice) c.requires.named
+    in_lattice c.args.lattices.now c.args.solver.now.lattice c.args.lattice.now c.requires.lattice
+    (NamesElementsIn c.args.graph.now c.args.solver.now.lattice) c.requires.named
 
 -- a bound for which an element is found is exceeded by some element of the lattice
 pub show-requires-clause-exceeded : goal.show-requires-clause-exceeded
 show-requires-clause-exceeded c =
     let some = is_here c.exceeded.result (sym c.is_some.ensures ∙ c.if-is_some.true) c.exceeded.ensures.element in
-    in_lattice c.args.lattices.now c.args.solver.now.lattice c.args.lattice.now c.requires.lattice (λ order. IsExceededBySome c.args.graph.now c.args.solver.now order c.args.bound) some
+    in_lattice c.args.lattices.now c.args.solver.now.lattice c.args.lattice.now c.requires.lattice
+    (λ order. IsExceededBySome c.args.graph.now c.args.solver.now order c.args.bound) some

@@ -3,6 +3,7 @@ use Rattle.lattice_core.specs.Rows.{order_of}
 use Rattle.lattice_core.proofs.UpperLower.{lacks_none}
 use Rattle.lattice_core.proofs.bounds.first_lack.Goals as goal
 
+-- the first element that lacks a bound with one behind it makes the first pair that does
 pub returns-in-Some : goal.returns-in-Some
 returns-in-Some c =
     let next = c.in-Some.ensures in
@@ -10,7 +11,8 @@ returns-in-Some c =
       apart = next.apart;
       within = next.within;
       has = next.has;
-      no_earlier_row = λ a d before lt within. lacks_none (order_of c.args.above.now) a d (c.loop-a.invariant a before d lt within);
+      no_earlier_row =
+          λ a d before lt within. lacks_none (order_of c.args.above.now) a d (c.loop-a.invariant a before d lt within);
       no_earlier = next.none_between;
     }
 

@@ -3,6 +3,7 @@ use Rattle.std.specs.Int.{bit_at}
 use Rattle.lattice_core.specs.Building.{IsWritten, first_unknown}
 use Rattle.lattice_core.proofs.checks.links.Given as goal
 
+-- there is a row for each entry, the rows say the lines so far, and their names are known
 abbrev pub invariant-loop-pair : goal.invariant-loop-pair
 invariant-loop-pair l = record {
   len : vec_len l.rows ≡ length l.entries;

@@ -2,6 +2,7 @@ use Rattle.std.proofs.Common.{◌≡◌, ℕ, ◌<◌, ◌↔◌, vec_len, get_o
 use Rattle.std.specs.Int.{bit_at}
 use Rattle.lattice_core.proofs.rows.converse.Given as goal
 
+-- the columns so far are the rows read the other way, for each element before this one
 abbrev pub invariant-loop-b : goal.invariant-loop-b
 invariant-loop-b l = record {
   len : vec_len l.columns ≡ l.b;

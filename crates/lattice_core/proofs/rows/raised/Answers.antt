@@ -13,6 +13,7 @@ returns-then-has-clause-kept c i h = or_left c.args.grown c.args.upper i h
 pub returns-then-has-clause-added : goal.returns-then-has-clause-added
 returns-then-has-clause-added c i there h = or_right c.args.grown c.args.upper i h
 
+-- where the row has the element, what it gains is of the rows of its elements
 pub returns-then-has-clause-only : goal.returns-then-has-clause-only
 returns-then-has-clause-only c i h =
     let there : bit_at c.args.row c.args.at ≡ 1 = c.has.ensures.exact.0 c.if-has.true in

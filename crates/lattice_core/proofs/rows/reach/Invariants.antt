@@ -3,6 +3,7 @@ use Rattle.std.specs.Int.{bit_at}
 use Rattle.lattice_core.specs.Rows.{AreLed}
 use Rattle.lattice_core.proofs.rows.reach.Given as goal
 
+-- the row has the start, and only what links lead to from there
 abbrev pub invariant-loop-row : goal.invariant-loop-row
 invariant-loop-row l = record {
   begun : bit_at l.row l.start ≡ 1;

@@ -2,6 +2,7 @@ use Rattle.std.proofs.Common.{inl, inr, arith, below_more}
 use Rattle.lattice_core.specs.Rows.{On}
 use Rattle.lattice_core.proofs.rows.step.Goals as goal
 
+-- one more element of the row adds what it is linked to
 pub loop-at-preserved : goal.loop-at-preserved
 loop-at-preserved c =
     let so_far = c.loop-at.invariant in
@@ -13,5 +14,6 @@ loop-at-preserved c =
         | inl before ↦ so_far.sound start led i before
         | inr new ↦ On c.loop-at.at i (led c.loop-at.at new.0) new.1
       ];
-      closed = λ b. below_more _ _ (λ a lt there link. raised.kept b (so_far.closed b a lt there link)) (raised.added b);
+      closed =
+          λ b. below_more _ _ (λ a lt there link. raised.kept b (so_far.closed b a lt there link)) (raised.added b);
     }

@@ -3,6 +3,7 @@ use Rattle.std.specs.Int.{bit_at}
 use Rattle.lattice_core.specs.Rows.{AreLed}
 use Rattle.lattice_core.proofs.rows.step.Given as goal
 
+-- what is grown has the row, only what its elements lead to, and all links of those before this one
 abbrev pub invariant-loop-at : goal.invariant-loop-at
 invariant-loop-at l = record {
   more : l.row ≤ l.grown;

@@ -10,5 +10,6 @@ pub loop-at-preserved : goal.loop-at-preserved
 loop-at-preserved c = record {
   later = omega (arith, c.loop-at.invariant.later, c.in_ok-end.ensures.later);
   within = c.in_ok-end.ensures.within;
-  gap = gap_on c.args.bytes.now c.args.from c.loop-at.at c.in_ok-end.end c.loop-at.invariant.later c.in_ok-end.ensures.later c.in_ok-end.ensures.within c.loop-at.invariant.gap c.in_ok-end.ensures.gap;
+  gap = gap_on c.args.bytes.now c.args.from c.loop-at.at c.in_ok-end.end c.loop-at.invariant.later
+      c.in_ok-end.ensures.later c.in_ok-end.ensures.within c.loop-at.invariant.gap c.in_ok-end.ensures.gap;
 }

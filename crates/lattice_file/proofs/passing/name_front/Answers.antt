@@ -7,5 +7,6 @@ use Rattle.lattice_file.proofs.passing.name_front.Goals as goal
 pub returns : goal.returns
 returns c =
     let flows = c.args.flows.now in
-    front_either (λ w. if_flow flows w Ptrflow) (λ w. if_flow flows w Fieldflow) c.args.word.now c.front_of.result c.front_of-2.result c.longer.result
+    front_either (λ w. if_flow flows w Ptrflow)
+    (λ w. if_flow flows w Fieldflow) c.args.word.now c.front_of.result c.front_of-2.result c.longer.result
     c.longer.ensures.first c.longer.ensures.second c.longer.ensures.which c.front_of.ensures c.front_of-2.ensures

@@ -13,5 +13,6 @@ loop-byte-preserved c =
       line = rw c.behind.ensures.line (line_on front i c.loop-byte.line c.loop-byte-test.true so_far.line);
       column = rw c.behind.ensures.column (column_on front i c.loop-byte.column c.loop-byte-test.true so_far.column);
       few_lines = rw c.behind.ensures.line (line_bound (get_or front i 0 == 10) c.loop-byte.line i so_far.few_lines);
-      few_columns = rw c.behind.ensures.column (column_bound (get_or front i 0 == 10) c.loop-byte.column i so_far.few_columns);
+      few_columns =
+          rw c.behind.ensures.column (column_bound (get_or front i 0 == 10) c.loop-byte.column i so_far.few_columns);
     }

@@ -14,11 +14,15 @@ returns-then-end-bytes-clause-fails c =
     let new = some_from (next old TextLexeme) c.requires.wanted in
     let line : ends_line (drop c.text_end-end.result c.args.bytes.now) ≡ true =
     elim c.then-end-bytes.branch [
-      | then-end-bytes-via-then-end-bytes w ↦ line_over c.args.bytes.now c.text_end-end.result (omega (arith, w.if-end-bytes.true))
-      | then-end-bytes-via-else-end-bytes+then-bytes-end-ne34 w ↦ text_line c.args.bytes.now c.text_end-end.result (inside c.text_end-end.result c.args.bytes.now c.text_end-end.ensures.within w.if-end-bytes.false) w.if-bytes-end-ne34.true
+      | then-end-bytes-via-then-end-bytes w ↦
+          line_over c.args.bytes.now c.text_end-end.result (omega (arith, w.if-end-bytes.true))
+      | then-end-bytes-via-else-end-bytes+then-bytes-end-ne34 w ↦ text_line c.args.bytes.now c.text_end-end.result
+          (inside c.text_end-end.result c.args.bytes.now c.text_end-end.ensures.within w.if-end-bytes.false)
+          w.if-bytes-end-ne34.true
           (stop c.text_end-end.result c.args.bytes.now c.text_end-end.ensures.ends w.if-end-bytes.false)
     ] in
-    text_fails old new.0 c.args.bytes.now c.args.at c.text_end-end.result (omega (arith, c.text_end-end.ensures.later)) c.text_end-end.ensures.within c.requires.quote line c.text_end-end.ensures.text new.1
+    text_fails old new.0 c.args.bytes.now c.args.at c.text_end-end.result (omega (arith, c.text_end-end.ensures.later))
+    c.text_end-end.ensures.within c.requires.quote line c.text_end-end.ensures.text new.1
   where
     inside : (end : ℕ) (bytes : List ℕ) → end ≤ length bytes → (end ≡ length bytes → ⊥) → end < length bytes
     inside end bytes le other = omega (arith, le, other)
@@ -31,5 +35,7 @@ returns-then-end-bytes-clause-fails c =
 -- a colour text with its closing quote goes on behind it
 pub returns-clause-goes : goal.returns-clause-goes
 returns-clause-goes c =
-    text_goes (standing_of c.args.reader.now) (standing_of c.take_text.new.self) c.args.bytes.now c.args.at c.text_end-end.result (omega (arith, c.text_end-end.ensures.later))
-    (omega (arith, c.text_end-end.ensures.within, c.if-end-bytes.false)) c.requires.quote c.if-bytes-end-ne34.false c.text_end-end.ensures.text c.take_text.ensures
+    text_goes (standing_of c.args.reader.now) (standing_of c.take_text.new.self) c.args.bytes.now c.args.at
+    c.text_end-end.result (omega (arith, c.text_end-end.ensures.later))
+    (omega (arith, c.text_end-end.ensures.within, c.if-end-bytes.false)) c.requires.quote c.if-bytes-end-ne34.false
+    c.text_end-end.ensures.text c.take_text.ensures

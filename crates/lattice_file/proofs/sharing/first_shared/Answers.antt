@@ -6,4 +6,5 @@ pub loop-at-preserved : goal.loop-at-preserved
 loop-at-preserved c = apart_on c.args.all.now c.loop-at.at c.loop-at.invariant c.in_default.ensures
 
 pub returns : goal.returns
-returns c at elem name within shared = c.loop-at.invariant at elem name (omega (arith, within, c.loop-at-test.false, c.len-at-end.ensures.count)) shared
+returns c at elem name within shared =
+    c.loop-at.invariant at elem name (omega (arith, within, c.loop-at-test.false, c.len-at-end.ensures.count)) shared

@@ -9,7 +9,9 @@ use Rattle.lattice_file.proofs.words.deref_front.Goals as goal
 pub returns : goal.returns
 returns c =
     let wide = c.args.wide in
-    front_either (λ w. only_if (bytes_eq w (codes "yes")) Yes) (λ w. only_if (wide && bytes_eq w (codes "access")) Access) c.args.word.now c.shared_front.result c.access_front-access.result c.longer.result
-    c.longer.ensures.first c.longer.ensures.second c.longer.ensures.which
+    front_either (λ w. only_if (bytes_eq w (codes "yes")) Yes)
+    (λ w. only_if (wide && bytes_eq w (codes "access")) Access) c.args.word.now c.shared_front.result
+    c.access_front-access.result c.longer.result c.longer.ensures.first c.longer.ensures.second c.longer.ensures.which
     (front_only c.args.word.now (codes "yes") Yes c.shared_front.result c.shared_front.ensures)
-    (front_allowed (λ w. wide && bytes_eq w (codes "access")) (λ w. Access) c.args.word.now c.access_front-access.result c.access_front-access.ensures)
+    (front_allowed (λ w. wide && bytes_eq w (codes "access"))
+    (λ w. Access) c.args.word.now c.access_front-access.result c.access_front-access.ensures)

@@ -11,10 +11,14 @@ use Rattle.lattice_file.proofs.words.sign_front.Goals as goal
 pub returns : goal.returns
 returns c =
     let word = c.args.word.now in
-    let last : IsFront (λ w. is_some (option_or (only_if (bytes_eq w (codes "neg")) Neg) (only_if (bytes_eq w (codes "eq")) Eq))) word c.longer-neg_or_eq.result =
-    front_either (λ w. only_if (bytes_eq w (codes "neg")) Neg) (λ w. only_if (bytes_eq w (codes "eq")) Eq) word c.shared_front.result c.shared_front-2.result c.longer-neg_or_eq.result
-    c.longer-neg_or_eq.ensures.first c.longer-neg_or_eq.ensures.second c.longer-neg_or_eq.ensures.which
-    (front_only word (codes "neg") Neg c.shared_front.result c.shared_front.ensures) (front_only word (codes "eq") Eq c.shared_front-2.result c.shared_front-2.ensures) in
-    front_either (λ w. only_if (bytes_eq w (codes "pos")) Pos) (λ w. option_or (only_if (bytes_eq w (codes "neg")) Neg) (only_if (bytes_eq w (codes "eq")) Eq)) word
-    c.shared_front-3.result c.longer-neg_or_eq.result c.longer.result c.longer.ensures.first c.longer.ensures.second c.longer.ensures.which
+    let last : IsFront (λ w. is_some (option_or (only_if (bytes_eq w (codes "neg")) Neg)
+    (only_if (bytes_eq w (codes "eq")) Eq))) word c.longer-neg_or_eq.result =
+    front_either (λ w. only_if (bytes_eq w (codes "neg")) Neg) (λ w. only_if (bytes_eq w (codes "eq")) Eq) word
+    c.shared_front.result c.shared_front-2.result c.longer-neg_or_eq.result c.longer-neg_or_eq.ensures.first
+    c.longer-neg_or_eq.ensures.second c.longer-neg_or_eq.ensures.which
+    (front_only word (codes "neg") Neg c.shared_front.result c.shared_front.ensures)
+    (front_only word (codes "eq") Eq c.shared_front-2.result c.shared_front-2.ensures) in
+    front_either (λ w. only_if (bytes_eq w (codes "pos")) Pos) (λ w. option_or (only_if (bytes_eq w (codes "neg")) Neg)
+    (only_if (bytes_eq w (codes "eq")) Eq)) word c.shared_front-3.result c.longer-neg_or_eq.result c.longer.result
+    c.longer.ensures.first c.longer.ensures.second c.longer.ensures.which
     (front_only word (codes "pos") Pos c.shared_front-3.result c.shared_front-3.ensures) last

@@ -13,6 +13,7 @@ loop-n-init c = record { gains = gains_same _; sound = λ all. all; begun = λ n
 pub begin-requires-clause-below : goal.begin-requires-clause-below
 begin-requires-clause-below c = below_same c.args.flows.now.graph.now _ _ c.loop-n.invariant.gains.size c.requires.below
 
+-- beginning with one more constraint keeps the constants before it in their sets
 pub loop-n-preserved : goal.loop-n-preserved
 loop-n-preserved c =
     let so_far = c.loop-n.invariant in
@@ -24,10 +25,12 @@ loop-n-preserved c =
         | inl earlier ↦ step.gains.kept First v e (so_far.begun n e v earlier st)
         | inr last ↦
             let is : c.new.result ≡ n = omega (arith, lt, last, c.new.ensures) in
-            step.begun e v (subst (λ k. Stands c.args.flows.now.graph.now c.args.flows.now.lattice k (Const c.args.flows.now.lattice e v)) (sym is) st)
+            step.begun e v (subst (λ k. Stands c.args.flows.now.graph.now c.args.flows.now.lattice k
+            (Const c.args.flows.now.lattice e v)) (sym is) st)
       ];
     }
 
+-- when all constraints are through, each constant is in the first set of its variable
 pub returns-clause-begun : goal.returns-clause-begun
 returns-clause-begun c = λ n e v st.
     let within = slice_get_within c.args.flows.now.graph.now.constraints n st.constraint st.there in

@@ -6,6 +6,7 @@ use Rattle.lattice_solver.specs.Phases.{AllLeadIn, HasIn}
 use Rattle.lattice_solver.specs.Working.{Gains}
 use Rattle.lattice_solver.proofs.turns.begin_all.Given as goal
 
+-- the sets gain, stay sound, and have each constant before this constraint
 abbrev pub invariant-loop-n : goal.invariant-loop-n
 invariant-loop-n l = record {
   gains : Gains l.fn.work l.work;

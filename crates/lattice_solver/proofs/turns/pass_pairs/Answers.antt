@@ -10,6 +10,7 @@ use Rattle.lattice_solver.proofs.Over.{from_on}
 use Rattle.match_summary.proofs.Sources.{pair_place, source_at, source_row}
 use Rattle.lattice_solver.proofs.turns.pass_pairs.Goals as goal
 
+-- at first no pair from the variable comes after the newest one
 pub loop-next-init : goal.loop-next-init
 loop-next-init c = record {
   gains = gains_same _;
@@ -22,22 +23,27 @@ loop-next-init c = record {
       (source_at c.args.flows.now.summaries.now n row is ∙ ap (λ (x : ℕ). Some x) from));
 }
 
+-- the number of the next pair is within the summaries
 pub row-pair-requires : goal.row-pair-requires
 row-pair-requires c =
-    let row = source_row c.args.flows.now.summaries.now c.in-Some.at _ (c.loop-next.invariant.there c.in-Some.at (ap link_of c.in-Some.is)) in
+    let row = source_row c.args.flows.now.summaries.now c.in-Some.at _
+    (c.loop-next.invariant.there c.in-Some.at (ap link_of c.in-Some.is)) in
     slice_get_within c.args.flows.now.summaries.now c.in-Some.at row.0 row.1
 
 pub pass_leaves-requires-clause-ready : goal.pass_leaves-requires-clause-ready
 pass_leaves-requires-clause-ready c = system_same c.args.flows.now _ _ c.loop-next.invariant.gains.size c.requires.ready
 
+-- the pair before this one of the variable has a lower number
 pub loop-next-smaller : goal.loop-next-smaller
 loop-next-smaller c =
-    let link = c.before_from-next.ensures c.args.call.now.to (c.loop-next.invariant.there c.in-Some.at (ap link_of c.in-Some.is)) in
+    let link = c.before_from-next.ensures c.args.call.now.to
+    (c.loop-next.invariant.there c.in-Some.at (ap link_of c.in-Some.is)) in
     let less : link_of c.before_from-next.result ≤ c.in-Some.at = link.within in
     let is : link_of c.loop-next.next ≡ c.in-Some.at + 1 = ap link_of c.in-Some.is in
     let goes : link_of c.before_from-next.result < link_of c.loop-next.next = omega (arith, less, is) in
     goes
 
+-- passing the groups of one more pair keeps those of the pairs from that number on passed
 pub loop-next-preserved : goal.loop-next-preserved
 loop-next-preserved c =
     let so_far = c.loop-next.invariant in
@@ -58,20 +64,25 @@ loop-next-preserved c =
       there = link.there;
       done = λ n m row there from le. elim (cases_lt c.in-Some.at n) [
         | inl after ↦
-            from_on sys lattice rows had c.loop-next.work.sets c.pass_leaves.new.work.sets site to row.to m step.gains.kept (so_far.done n m row there from (omega (arith, after, is)))
+            from_on sys lattice rows had c.loop-next.work.sets c.pass_leaves.new.work.sets site to row.to m
+            step.gains.kept (so_far.done n m row there from (omega (arith, after, is)))
         | inr early ↦ elim (cases_lt n c.in-Some.at) [
           | inl before ↦ absurd (link.last n le before (source_at rows n row there ∙ ap (λ (x : ℕ). Some x) from))
           | inr last ↦
               let same : n ≡ c.in-Some.at = omega (arith, early, last) in
-              let one : Some c.row-pair.result ≡ Some row = sym c.row-pair.ensures ∙ ap (λ (k : ℕ). slice_get rows k) (sym same) ∙ there in
+              let one : Some c.row-pair.result ≡ Some row =
+              sym c.row-pair.ensures ∙ ap (λ (k : ℕ). slice_get rows k) (sym same) ∙ there in
               let row_is : c.row-pair.result ≡ row = cc in
-              subst (λ (b : ℕ). IsPassedFrom sys lattice rows had c.pass_leaves.new.work.sets site to b m) (ap (λ (r : Summary). r.to) row_is) (step.passed m)
+              subst (λ (b : ℕ). IsPassedFrom sys lattice rows had c.pass_leaves.new.work.sets site to b m)
+              (ap (λ (r : Summary). r.to) row_is) (step.passed m)
         ]
       ];
     }
 
+-- when no pair is left, the groups of each pair from the variable were passed
 pub returns-clause-passed : goal.returns-clause-passed
 returns-clause-passed c = λ b m pair.
     let place = pair_place c.args.flows.now.summaries.now c.args.call.now.to b pair in
     let none : link_of c.loop-next.next ≡ 0 = ap link_of c.in_default.is in
-    c.loop-next.invariant.done place.0 m (record { from = c.args.call.now.to; to = b; why = pair.0 }) place.1 refl (omega (arith, none))
+    c.loop-next.invariant.done place.0 m (record { from = c.args.call.now.to; to = b; why = pair.0 }) place.1 refl
+    (omega (arith, none))

@@ -5,6 +5,7 @@ use Rattle.lattice_solver.specs.Waiting.{waits}
 use Rattle.lattice_solver.specs.Working.{left_in}
 use Rattle.lattice_solver.proofs.turns.saturate.Given as goal
 
+-- the sets are sound and begun, and at each variable that does not wait no constraint brings anything new
 abbrev pub invariant-loop-taken : goal.invariant-loop-taken
 invariant-loop-taken l = record {
   size : size_of l.work.sets ≡ size_of l.fn.work.sets;

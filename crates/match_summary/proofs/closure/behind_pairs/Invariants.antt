@@ -5,6 +5,7 @@ use Rattle.match_summary.specs.Chained.{link_of}
 use Rattle.match_summary.specs.Closing.{Follows, Grows, IsKept, targets}
 use Rattle.match_summary.proofs.closure.behind_pairs.Given as goal
 
+-- the list is kept and grows, and the part was put behind each pair from this number on
 abbrev pub invariant-loop-next : goal.invariant-loop-next
 invariant-loop-next l = record {
   kept : IsKept l.given l.found;

@@ -5,25 +5,32 @@ use Rattle.match_summary.proofs.Crossing.{crossed_first, crossed_more, crosses_s
 use Rattle.match_summary.proofs.Growth.{grows_not, grows_then, leads_grown, left_between}
 use Rattle.match_summary.proofs.closure.close_all.Goals as goal
 
+-- at first no `Leave` of the inner end comes after the newest one
 pub loop-next-init : goal.loop-next-init
 loop-next-init c = record {
   kept = c.requires.kept;
   grows = grows_not c.args.found.now.known;
   there = c.newest-next.ensures.there;
   done = crossed_first c.args.given.now.graph.now _
-      (IsLeftFrom c.args.given.now.graph.now c.args.given.now.lattice c.args.found.now.known c.args.found.now.known c.args.from c.args.call.now.site c.args.call.now.to c.args.last)
-      _ c.newest-next.ensures (λ n elsewhere w st. absurd (elsewhere (leave_crosses c.args.given.now.graph.now c.args.given.now.lattice n c.args.call.now.site c.args.last w st)));
+      (IsLeftFrom c.args.given.now.graph.now c.args.given.now.lattice c.args.found.now.known c.args.found.now.known
+      c.args.from c.args.call.now.site c.args.call.now.to c.args.last) _ c.newest-next.ensures
+      (λ n elsewhere w st. absurd (elsewhere
+      (leave_crosses c.args.given.now.graph.now c.args.given.now.lattice n c.args.call.now.site c.args.last w st)));
 }
 
 pub close-requires-clause-path : goal.close-requires-clause-path
-close-requires-clause-path c = leads_grown _ _ c.args.from c.args.call.now.from c.loop-next.invariant.grows c.requires.path
+close-requires-clause-path c =
+    leads_grown _ _ c.args.from c.args.call.now.from c.loop-next.invariant.grows c.requires.path
 
 pub close-requires-clause-other : goal.close-requires-clause-other
-close-requires-clause-other c = crosses_site c.args.given.now.graph.now _ c.in-Some.other (c.loop-next.invariant.there c.in-Some.other (ap link_of c.in-Some.is))
+close-requires-clause-other c =
+    crosses_site c.args.given.now.graph.now _ c.in-Some.other
+    (c.loop-next.invariant.there c.in-Some.other (ap link_of c.in-Some.is))
 
 pub before-next-requires-clause-at : goal.before-next-requires-clause-at
 before-next-requires-clause-at c = c.loop-next.invariant.there c.in-Some.other (ap link_of c.in-Some.is)
 
+-- the crossing before this one has a lower number
 pub loop-next-smaller : goal.loop-next-smaller
 loop-next-smaller c =
     let less : link_of c.before-next.result ≤ c.in-Some.other = c.before-next.ensures.within in
@@ -31,6 +38,7 @@ loop-next-smaller c =
     let goes : link_of c.before-next.result < link_of c.loop-next.next = omega (arith, less, is) in
     goes
 
+-- closing one more `Leave` behind the `Enter` keeps those from that number on followed
 pub loop-next-preserved : goal.loop-next-preserved
 loop-next-preserved c =
     let so_far = c.loop-next.invariant in
@@ -41,13 +49,15 @@ loop-next-preserved c =
       grows = grows_then _ _ _ so_far.grows step.grows;
       there = c.before-next.ensures.there;
       done = crossed_more c.args.given.now.graph.now _
-          (IsLeftFrom c.args.given.now.graph.now c.args.given.now.lattice c.args.found.now.known c.close.new.found.known c.args.from c.args.call.now.site c.args.call.now.to c.args.last)
-          c.in-Some.other _ c.before-next.ensures
-          (λ n after. left_between _ _ _ _ _ _ _ _ _ _ _ (grows_not c.args.found.now.known) step.grows (so_far.done n (omega (arith, after, is))))
-          (left_between _ _ _ _ _ _ _ _ _ _ _ so_far.grows (grows_not c.close.new.found.known) (step.done c.args.last))
-          (λ n elsewhere w st. absurd (elsewhere (leave_crosses c.args.given.now.graph.now c.args.given.now.lattice n c.args.call.now.site c.args.last w st)));
+          (IsLeftFrom c.args.given.now.graph.now c.args.given.now.lattice c.args.found.now.known c.close.new.found.known
+          c.args.from c.args.call.now.site c.args.call.now.to c.args.last) c.in-Some.other _ c.before-next.ensures
+          (λ n after. left_between _ _ _ _ _ _ _ _ _ _ _ (grows_not c.args.found.now.known) step.grows
+          (so_far.done n (omega (arith, after, is)))) (left_between _ _ _ _ _ _ _ _ _ _ _ so_far.grows
+          (grows_not c.close.new.found.known) (step.done c.args.last)) (λ n elsewhere w st. absurd (elsewhere
+          (leave_crosses c.args.given.now.graph.now c.args.given.now.lattice n c.args.call.now.site c.args.last w st)));
     }
 
+-- when no `Leave` is left, each one of the site from the variable was closed
 pub returns-clause-done : goal.returns-clause-done
 returns-clause-done c = λ m w st.
     let none : link_of c.loop-next.next ≡ 0 = ap link_of c.in_default.is in

@@ -4,6 +4,7 @@ use Rattle.flow_graph.specs.System.{AllBelow, Stands, vars_of}
 use Rattle.match_summary.specs.Summary.{IsInnerEnd}
 use Rattle.match_summary.proofs.closure.inner_ends.Given as goal
 
+-- only inner ends are marked, and those of each constraint before this one are
 abbrev pub invariant-loop-n : goal.invariant-loop-n
 invariant-loop-n l = record {
   size : length l.ends.items ≡ vars_of l.graph;

@@ -4,13 +4,15 @@ use Rattle.match_summary.specs.Closing.{Grows, IsEntered, IsKept}
 use Rattle.match_summary.specs.Crossings.{Crosses}
 use Rattle.match_summary.proofs.closure.leave.Given as goal
 
+-- the list is kept and grows, and the `Leave` was opened at each `Enter` from this number on
 abbrev pub invariant-loop-next : goal.invariant-loop-next
 invariant-loop-next l = record {
   kept : IsKept l.given l.found;
   grows : Grows l.initial.found.known l.found.known;
   there : (n : ℕ) → link_of l.next ≡ n + 1 → Crosses l.given.graph.now l.end n;
   done : (n : ℕ) → link_of l.next ≤ n
-      → IsEntered l.given.graph.now l.given.lattice l.given.marks.now l.initial.found.known l.found.known l.from l.back.site l.back.to n;
+      → IsEntered l.given.graph.now l.given.lattice l.given.marks.now l.initial.found.known l.found.known l.from
+      l.back.site l.back.to n;
 }
 
 abbrev pub decreases-loop-next : goal.decreases-loop-next

@@ -3,6 +3,7 @@ use Rattle.std.specs.List.{Contains}
 use Rattle.match_summary.specs.Closing.{IsMarked}
 use Rattle.match_summary.proofs.closure.mark_starts.Given as goal
 
+-- the marks are the old ones and those of starts, among them each start before this one
 abbrev pub invariant-loop-start : goal.invariant-loop-start
 invariant-loop-start l = record {
   size : length l.marks.items ≡ length l.initial.marks.items;

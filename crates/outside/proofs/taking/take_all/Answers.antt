@@ -12,11 +12,12 @@ returns-in-Err g c =
     record {
       read = (
         record { name = c.args.name.now; bytes = c.loop-buffer.taken.items; end = Broken },
-        reads_one (stands (files.log c.args.files.now) (files.failed c.args.files.now) (files.contents c.args.files.now))
+        reads_one
+            (stands (files.log c.args.files.now) (files.failed c.args.files.now) (files.contents c.args.files.now))
             (stands (files.log c.next.new.self) (files.failed c.next.new.self) (files.contents c.next.new.self)) _
-            (broke Failed c.next.new.into (files.log c.args.files.now) (files.log c.loop-buffer.files) (files.log c.next.new.self) c.args.name.now
-            c.loop-buffer.taken.items c.loop-buffer.invariant.log c.in-Err.field-0 c.in-Err.ensures.log)
-            (grind arith) (grind arith) c.in-Err.ensures.agrees,
+            (broke Failed c.next.new.into (files.log c.args.files.now) (files.log c.loop-buffer.files)
+            (files.log c.next.new.self) c.args.name.now c.loop-buffer.taken.items c.loop-buffer.invariant.log
+            c.in-Err.field-0 c.in-Err.ensures.log) (grind arith) (grind arith) c.in-Err.ensures.agrees,
         refl,
         refl,
       );
@@ -29,11 +30,13 @@ returns-then-count-eq0 g c =
     record {
       read = (
         record { name = c.args.name.now; bytes = c.loop-buffer.taken.items; end = Whole },
-        reads_one (stands (files.log c.args.files.now) (files.failed c.args.files.now) (files.contents c.args.files.now))
+        reads_one
+            (stands (files.log c.args.files.now) (files.failed c.args.files.now) (files.contents c.args.files.now))
             (stands (files.log c.next.new.self) (files.failed c.next.new.self) (files.contents c.next.new.self)) _
-            (ended_so Failed c.next.new.into (files.log c.args.files.now) (files.log c.loop-buffer.files) (files.log c.next.new.self) c.args.name.now
-            c.loop-buffer.taken.items c.loop-buffer.invariant.log c.in-Ok-next.count (grind arith) c.in-Ok-next.ensures.log)
-            (grind arith) (grind arith) c.in-Ok-next.ensures.agrees,
+            (ended_so Failed c.next.new.into (files.log c.args.files.now) (files.log c.loop-buffer.files)
+            (files.log c.next.new.self) c.args.name.now c.loop-buffer.taken.items c.loop-buffer.invariant.log
+            c.in-Ok-next.count (grind arith) c.in-Ok-next.ensures.log) (grind arith)
+            (grind arith) c.in-Ok-next.ensures.agrees,
         refl,
         (refl, refl, grind (arith, common_steps)),
       );
@@ -45,12 +48,18 @@ returns-then-is_err-2 g c =
     let files = g.F.Files in
     record {
       read = (
-        record { name = c.args.name.now; bytes = c.loop-buffer.taken.items ++ take c.in-Ok-next.count c.next.new.into; end = Going },
-        reads_one (stands (files.log c.args.files.now) (files.failed c.args.files.now) (files.contents c.args.files.now))
+        record {
+          name = c.args.name.now;
+          bytes = c.loop-buffer.taken.items ++ take c.in-Ok-next.count c.next.new.into;
+          end = Going;
+        },
+        reads_one
+            (stands (files.log c.args.files.now) (files.failed c.args.files.now) (files.contents c.args.files.now))
             (stands (files.log c.next.new.self) (files.failed c.next.new.self) (files.contents c.next.new.self)) _
-            (moved Failed c.next.new.into (files.log c.args.files.now) (files.log c.loop-buffer.files) (files.log c.next.new.self) c.args.name.now
-            c.loop-buffer.taken.items c.loop-buffer.invariant.log c.in-Ok-next.count (grind arith) c.in-Ok-next.ensures.log)
-            (grind arith) (grind arith) c.in-Ok-next.ensures.agrees,
+            (moved Failed c.next.new.into (files.log c.args.files.now) (files.log c.loop-buffer.files)
+            (files.log c.next.new.self) c.args.name.now c.loop-buffer.taken.items c.loop-buffer.invariant.log
+            c.in-Ok-next.count (grind arith) c.in-Ok-next.ensures.log) (grind arith)
+            (grind arith) c.in-Ok-next.ensures.agrees,
         refl,
         refl,
       );
@@ -63,9 +72,11 @@ returns g c =
     record {
       read = (
         record { name = c.args.name.now; bytes = c.loop-buffer.taken.items; end = Going },
-        reads_one (stands (files.log c.args.files.now) (files.failed c.args.files.now) (files.contents c.args.files.now))
-            (stands (files.log c.loop-buffer.files) (files.failed c.loop-buffer.files) (files.contents c.loop-buffer.files)) _
-            c.loop-buffer.invariant.log (grind arith) c.loop-buffer.invariant.contents c.loop-buffer.invariant.agrees,
+        reads_one
+            (stands (files.log c.args.files.now) (files.failed c.args.files.now) (files.contents c.args.files.now))
+            (stands (files.log c.loop-buffer.files) (files.failed c.loop-buffer.files)
+            (files.contents c.loop-buffer.files)) _ c.loop-buffer.invariant.log
+            (grind arith) c.loop-buffer.invariant.contents c.loop-buffer.invariant.agrees,
         refl,
         (refl, grind (arith, common_steps)),
       );
@@ -74,12 +85,16 @@ returns g c =
 -- one more piece joins what was taken and the reading, within the limit and one
 pub loop-buffer-preserved : goal.loop-buffer-preserved
 loop-buffer-preserved g c =
-    let new : c.extend_from_slice.new.self.items ≡ c.loop-buffer.taken.items ++ take c.in-Ok-next.count c.next.new.into = grind (arith, common_steps) in
+    let new : c.extend_from_slice.new.self.items ≡ c.loop-buffer.taken.items
+    ++ take c.in-Ok-next.count c.next.new.into = grind (arith, common_steps) in
     record {
       contents = grind arith;
-      log = moved Failed c.next.new.into (g.F.Files.log c.args.files.now) (g.F.Files.log c.loop-buffer.files) (g.F.Files.log c.next.new.self) c.args.name.now
-          c.loop-buffer.taken.items c.loop-buffer.invariant.log c.in-Ok-next.count (grind arith) c.in-Ok-next.ensures.log
-          ∙ ap (λ (bytes : List ℕ). g.F.Files.log c.args.files.now ++ record { name = c.args.name.now; bytes = bytes; end = Going } ∷ []) (sym new);
+      log = moved Failed c.next.new.into (g.F.Files.log c.args.files.now) (g.F.Files.log c.loop-buffer.files)
+          (g.F.Files.log c.next.new.self) c.args.name.now
+          c.loop-buffer.taken.items c.loop-buffer.invariant.log c.in-Ok-next.count
+          (grind arith) c.in-Ok-next.ensures.log
+          ∙ ap (λ (bytes : List ℕ). g.F.Files.log c.args.files.now
+          ++ record { name = c.args.name.now; bytes = bytes; end = Going } ∷ []) (sym new);
       failed = grind arith;
       agrees = c.in-Ok-next.ensures.agrees;
       buffer = grind (arith, common_steps);

@@ -6,7 +6,8 @@ use Rattle.outside.proofs.taking.take_all.Given as goal
 abbrev pub invariant-loop-buffer : goal.invariant-loop-buffer
 invariant-loop-buffer g l = record {
   contents : g.F.Files.contents l.files ≡ g.F.Files.contents l.fn.files;
-  log : g.F.Files.log l.files ≡ g.F.Files.log l.fn.files ++ record { name = l.name; bytes = l.taken.items; end = Going } ∷ [];
+  log : g.F.Files.log l.files ≡ g.F.Files.log l.fn.files
+      ++ record { name = l.name; bytes = l.taken.items; end = Going } ∷ [];
   failed : g.F.Files.failed l.files ≡ g.F.Files.failed l.fn.files;
   agrees : IfSome (g.F.Files.contents l.files) (λ all. All (Agrees all) (g.F.Files.log l.files));
   buffer : vec_len l.buffer ≡ 65536;

@@ -15,7 +15,8 @@ loop-digit-preserved c =
     let digit : is_ascii_digit (get_or ds i 0) ≡ true = grind (arith, c.is_ascii_digit.ensures.value) in
     let same : capped c.saturating_add-number.result ≡ capped (10 * v + (get_or ds i 0 - 48)) = omega arith in (
       omega arith,
-      number_behind-capped (drop (i + 1) ds) _ _ same ∙ sym (ap (option_map capped) (number_behind-digit ds i v below digit)) ∙ c.loop-digit.invariant.1,
+      number_behind-capped (drop (i + 1) ds) _ _ same
+          ∙ sym (ap (option_map capped) (number_behind-digit ds i v below digit)) ∙ c.loop-digit.invariant.1,
     )
 
 pub returns : goal.returns

@@ -4,4 +4,5 @@ use Rattle.path_checker.proofs.lines.number_behind.Given as goal
 
 abbrev pub invariant-loop-digit : goal.invariant-loop-digit
 invariant-loop-digit l =
-    (l.number < 2 ^ 32) × (option_map capped (number_behind l.number (drop l.digit-index l.digits)) ≡ option_map capped (number_behind 0 l.digits))
+    (l.number < 2 ^ 32) × (option_map capped (number_behind l.number (drop l.digit-index l.digits))
+    ≡ option_map capped (number_behind 0 l.digits))

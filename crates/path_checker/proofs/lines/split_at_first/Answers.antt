@@ -11,4 +11,5 @@ returns-in-Some-clause-parts c =
     (λ j below. c.in-Some.ensures.0.before j (omega arith) below))
 
 pub returns-in-None-clause-parts : goal.returns-in-None-clause-parts
-returns-in-None-clause-parts c = split_whole (λ b. b == c.args.byte) c.args.text.now (λ j below. c.in-None.ensures j (omega arith) below)
+returns-in-None-clause-parts c =
+    split_whole (λ b. b == c.args.byte) c.args.text.now (λ j below. c.in-None.ensures j (omega arith) below)

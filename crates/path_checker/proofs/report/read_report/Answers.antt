@@ -28,13 +28,15 @@ faults_placed edges lines (Err e) (inr is) = fault_is_placed edges lines e is
 
 pub returns-clause-reads : goal.returns-clause-reads
 returns-clause-reads c =
-    on_ok_weaker c.read_lines.result (passing_is_report c.args.edges (lines_of c.args.bytes.now)) c.read_lines.ensures.passes
+    on_ok_weaker c.read_lines.result
+    (passing_is_report c.args.edges (lines_of c.args.bytes.now)) c.read_lines.ensures.passes
 
 -- where the lines are a report, only want of memory is a failure
 pub returns-clause-each : goal.returns-clause-each
 returns-clause-each c is =
-    only_memory c.read_lines.result (report_fault c.args.edges (lines_of c.args.bytes.now)) (report_passes c.args.edges (lines_of c.args.bytes.now) is)
-    c.read_lines.ensures.fault
+    only_memory c.read_lines.result (report_fault c.args.edges (lines_of c.args.bytes.now))
+    (report_passes c.args.edges (lines_of c.args.bytes.now) is) c.read_lines.ensures.fault
 
 pub returns-clause-place : goal.returns-clause-place
-returns-clause-place c = faults_placed c.args.edges (lines_of c.args.bytes.now) c.read_lines.result c.read_lines.ensures.fault
+returns-clause-place c =
+    faults_placed c.args.edges (lines_of c.args.bytes.now) c.read_lines.result c.read_lines.ensures.fault

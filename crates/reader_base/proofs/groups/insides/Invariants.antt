@@ -4,7 +4,8 @@ use Rattle.reader_base.proofs.groups.insides.Given as goal
 
 abbrev pub invariant-loop : goal.invariant-loop
 invariant-loop l =
-    insides_at l.opened l.place.scopes l.place.rest.now ≡ insides_at l.fn.opened l.fn.place.scopes l.fn.place.rest.now
+    insides_at l.opened l.cursor.scopes l.cursor.rest.now
+    ≡ insides_at l.fn.opened l.fn.cursor.scopes l.fn.cursor.rest.now
 
 abbrev pub decreases-loop : goal.decreases-loop
-decreases-loop l = length l.place.rest.now
+decreases-loop l = length l.cursor.rest.now

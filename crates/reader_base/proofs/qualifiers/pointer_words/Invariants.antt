@@ -4,7 +4,9 @@ use Rattle.reader_base.specs.Rows.{pointer_word_turn}
 use Rattle.reader_base.proofs.qualifiers.pointer_words.Given as goal
 
 abbrev pub invariant-loop-known : goal.invariant-loop-known
-invariant-loop-known l = run (pointer_word_turn l.room) l.known.items l.place.scopes l.place.rest.now ≡ run (pointer_word_turn l.room) [] l.fn.place.scopes l.fn.place.rest.now
+invariant-loop-known l =
+    run (pointer_word_turn l.room) l.known.items l.cursor.scopes l.cursor.rest.now
+    ≡ run (pointer_word_turn l.room) [] l.fn.cursor.scopes l.fn.cursor.rest.now
 
 abbrev pub decreases-loop-known : goal.decreases-loop-known
-decreases-loop-known l = length l.place.rest.now
+decreases-loop-known l = length l.cursor.rest.now

@@ -11,5 +11,5 @@ returns-clause-err c = IfErr-weaker c.annotate.result
     (λ fault. Halts c.args.known.now c.annotate_outer.new.graph c.annotate.new.graph fault
     (λ w. rules.annotating w (type c.args.known.now c.args.ty) (skel c.args.known.now c.inner.result))) _
     (λ fault stop w s. stops_inside_place w (type c.args.known.now c.args.ty) (skel c.args.known.now c.args.at)
-    (skel c.args.known.now c.inner.result) c.var.result c.args.graph.now c.annotate_outer.new.graph c.annotate.new.graph fault
-    c.var.ensures.root c.inner.ensures (c.in_ok-annotate_outer.ensures.ok w s) (stop w s)) c.annotate.ensures.err
+    (skel c.args.known.now c.inner.result) c.var.result c.args.graph.now c.annotate_outer.new.graph c.annotate.new.graph
+    fault c.var.ensures.root c.inner.ensures (c.in_ok-annotate_outer.ensures.ok w s) (stop w s)) c.annotate.ensures.err

@@ -9,5 +9,5 @@ pub returns-clause-err : goal.returns-clause-err
 returns-clause-err c =
     let k = c.args.known.now in
     halts_behind c.casting.result k c.args.graph.now c.form.new.graph c.casting.new.graph
-    (λ w. formed w c.args.span.now (skel k c.args.own)) (λ w. rows.casting w (type k c.args.ty) c.args.is_zero (skel k c.args.operand) (skel k c.args.own) c.args.span.now)
-    c.in_ok-form.ensures.ok c.casting.ensures.err
+    (λ w. formed w c.args.span.now (skel k c.args.own)) (λ w. rows.casting w (type k c.args.ty) c.args.is_zero
+    (skel k c.args.operand) (skel k c.args.own) c.args.span.now) c.in_ok-form.ensures.ok c.casting.ensures.err

@@ -16,7 +16,10 @@ returns-clause-ok c = on_ok_weaker c.smash.result
 -- where the flow of a skeleton into one variable stops, it halts in the links of all lattices
 pub returns-clause-err : goal.returns-clause-err
 returns-clause-err c = IfErr-weaker c.smash.result
-    (λ fault. Stops c.args.graph.now c.smash.new.graph fault (marked c.all_lattices.result c.args.span.now (smash (skel c.args.known.now c.args.from) c.args.into)))
-    (λ fault. Halts c.args.known.now c.args.graph.now c.smash.new.graph fault (λ w. in_all w c.args.span.now (smash (skel c.args.known.now c.args.from) c.args.into)))
-    (λ fault stop w s. stop_all c.args.graph.now c.smash.new.graph fault c.all_lattices.result (all_lattices w) c.args.span.now
+    (λ fault. Stops c.args.graph.now c.smash.new.graph fault
+    (marked c.all_lattices.result c.args.span.now (smash (skel c.args.known.now c.args.from) c.args.into)))
+    (λ fault. Halts c.args.known.now c.args.graph.now c.smash.new.graph fault (λ w.
+    in_all w c.args.span.now (smash (skel c.args.known.now c.args.from) c.args.into)))
+    (λ fault stop w s.
+    stop_all c.args.graph.now c.smash.new.graph fault c.all_lattices.result (all_lattices w) c.args.span.now
     (smash (skel c.args.known.now c.args.from) c.args.into) (c.all_lattices.ensures w s) stop) c.smash.ensures.err

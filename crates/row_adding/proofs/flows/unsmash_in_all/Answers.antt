@@ -16,7 +16,10 @@ returns-clause-ok c = on_ok_weaker c.unsmash.result
 -- where the flow of one variable into a skeleton stops, it halts in the links of all lattices
 pub returns-clause-err : goal.returns-clause-err
 returns-clause-err c = IfErr-weaker c.unsmash.result
-    (λ fault. Stops c.args.graph.now c.unsmash.new.graph fault (marked c.all_lattices.result c.args.span.now (unsmash c.args.from (skel c.args.known.now c.args.to))))
-    (λ fault. Halts c.args.known.now c.args.graph.now c.unsmash.new.graph fault (λ w. in_all w c.args.span.now (unsmash c.args.from (skel c.args.known.now c.args.to))))
-    (λ fault stop w s. stop_all c.args.graph.now c.unsmash.new.graph fault c.all_lattices.result (all_lattices w) c.args.span.now
+    (λ fault. Stops c.args.graph.now c.unsmash.new.graph fault
+    (marked c.all_lattices.result c.args.span.now (unsmash c.args.from (skel c.args.known.now c.args.to))))
+    (λ fault. Halts c.args.known.now c.args.graph.now c.unsmash.new.graph fault (λ w.
+    in_all w c.args.span.now (unsmash c.args.from (skel c.args.known.now c.args.to))))
+    (λ fault stop w s.
+    stop_all c.args.graph.now c.unsmash.new.graph fault c.all_lattices.result (all_lattices w) c.args.span.now
     (unsmash c.args.from (skel c.args.known.now c.args.to)) (c.all_lattices.ensures w s) stop) c.unsmash.ensures.err

@@ -16,8 +16,8 @@ form_pointer-returns-clause-err t c =
     let k = c.args.known.now in
     let ways = ways_of c.args.ways.now in
     halts_behind c.form_in.result k c.args.graph.now c.point.new.graph c.form_in.new.graph
-    (λ w. pointing ways c.args.span.now c.args.pointer (root (skel k c.args.inside))) (λ w. formed_in ways w.skeletons w.names.aggregates c.args.span.now (skel k c.args.inside))
-    c.in_ok-point.ensures.ok c.form_in.ensures.err
+    (λ w. pointing ways c.args.span.now c.args.pointer (root (skel k c.args.inside))) (λ w. formed_in ways w.skeletons
+    w.names.aggregates c.args.span.now (skel k c.args.inside)) c.in_ok-point.ensures.ok c.form_in.ensures.err
 
 -- where what passes between a pointer and what it points to halts, the pointer halts there
 pub form_pointer-returns-in_err-point-clause-err : goal.form_pointer-returns-in_err-point-clause-err
@@ -27,7 +27,8 @@ form_pointer-returns-in_err-point-clause-err t c =
     let failed = err_from_is_err_and c.from_residual.result c.from_residual.ensures.1 in
     rw (failed.1, failed.2)
     (λ w s. stop_front c.args.graph.now c.point.new.graph c.in_err-point.field-0.0
-    (pointing ways c.args.span.now c.args.pointer (root (skel k c.args.inside))) (formed_in ways w.skeletons w.names.aggregates c.args.span.now (skel k c.args.inside))
+    (pointing ways c.args.span.now c.args.pointer (root (skel k c.args.inside)))
+    (formed_in ways w.skeletons w.names.aggregates c.args.span.now (skel k c.args.inside))
     (c.in_err-point.ensures.err w s))
 
 -- what passes between a pointer and what it points to, then inside that, is what passes inside the pointer
@@ -39,7 +40,8 @@ form_pointer-returns-clause-ok t c =
     (λ is w s.
     let one = pointing ways c.args.span.now c.args.pointer (root (skel k c.args.inside)) in
     let two = formed_in ways w.skeletons w.names.aggregates c.args.span.now (skel k c.args.inside) in
-    is w s ∙ ap (λ g. with g two) (c.in_ok-point.ensures.ok w s) ∙ sym (with_append c.args.graph.now one two)) c.form_in.ensures.ok
+    is w s ∙ ap (λ g. with g two) (c.in_ok-point.ensures.ok w s)
+    ∙ sym (with_append c.args.graph.now one two)) c.form_in.ensures.ok
 
 -- where what passes inside the result halts, the function halts behind what passes inside its parameters
 pub form_function-returns-clause-err : goal.form_function-returns-clause-err
@@ -47,5 +49,6 @@ form_function-returns-clause-err t c =
     let k = c.args.known.now in
     let ways = ways_of c.args.ways.now in
     halts_behind c.form_in.result k c.args.graph.now c.form_params.new.graph c.form_in.new.graph
-    (λ w. all_formed_in ways w.skeletons w.names.aggregates c.args.span.now (params_from k.vars.now c.args.first)) (λ w. formed_in ways w.skeletons w.names.aggregates c.args.span.now (skel k c.args.back))
-    c.in_ok-form_params.ensures.ok c.form_in.ensures.err
+    (λ w. all_formed_in ways w.skeletons w.names.aggregates c.args.span.now (params_from k.vars.now c.args.first))
+    (λ w. formed_in ways w.skeletons w.names.aggregates c.args.span.now
+    (skel k c.args.back)) c.in_ok-form_params.ensures.ok c.form_in.ensures.err

@@ -8,4 +8,5 @@ use Rattle.row_adding.proofs.forming.into_members.Given as goal
 
 abbrev pub invariant-loop-it : goal.invariant-loop-it
 invariant-loop-it l =
-    Adds l.known l.fn.graph l.graph (λ w. into_members (ways_of l.ways) w.skeletons l.span l.of (map (own_of (type l.known)) (take l.it-index l.own)))
+    Adds l.known l.fn.graph l.graph
+    (λ w. into_members (ways_of l.ways) w.skeletons l.span l.of (map (own_of (type l.known)) (take l.it-index l.own)))

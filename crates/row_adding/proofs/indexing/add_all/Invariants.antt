@@ -5,4 +5,5 @@ use Rattle.row_adding.proofs.indexing.add_all.Given as goal
 
 abbrev pub invariant-loop-it : goal.invariant-loop-it
 invariant-loop-it l =
-    l.graph ≡ with l.fn.graph (all_below_in l.lattices (map indexed_of (take l.it-index l.nodes)) (map indexed_of l.nodes))
+    l.graph ≡ with l.fn.graph
+    (all_below_in l.lattices (map indexed_of (take l.it-index l.nodes)) (map indexed_of l.nodes))

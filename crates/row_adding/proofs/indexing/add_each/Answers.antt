@@ -11,9 +11,9 @@ loop-other-preserved c =
     let test = c.loop-other-test.true in
     let within : c.loop-other.other-index < length c.args.others.now = omega arith in
     one_added (λ (x : IndexedNode). below_one c.args.lattices (indexed_of c.args.it.now) (indexed_of x))
-    (λ (xs : List IndexedNode). below_in c.args.lattices (indexed_of c.args.it.now) (map indexed_of xs)) refl (λ x xs. refl)
-    c.args.graph.now c.loop-other.graph c.add_one.new.graph c.args.others.now c.loop-other.other-index c.other-item.result
-    c.other-item.is within c.loop-other.invariant c.in_ok-add_one.ensures.ok
+    (λ (xs : List IndexedNode). below_in c.args.lattices (indexed_of c.args.it.now) (map indexed_of xs)) refl
+    (λ x xs. refl) c.args.graph.now c.loop-other.graph c.add_one.new.graph c.args.others.now c.loop-other.other-index
+    c.other-item.result c.other-item.is within c.loop-other.invariant c.in_ok-add_one.ensures.ok
 
 -- where the link of a node to another halts, those to all halt there
 pub returns-in_err-add_one-clause-err : goal.returns-in_err-add_one-clause-err
@@ -21,8 +21,8 @@ returns-in_err-add_one-clause-err c =
     let test = c.loop-other-test.true in
     let within : c.loop-other.other-index < length c.args.others.now = omega arith in
     let failed = err_from_is_err_and c.from_residual.result c.from_residual.ensures.1 in
-    rw (failed.1, failed.2)
-    (stops_at_one (λ (x : IndexedNode). below_one c.args.lattices (indexed_of c.args.it.now) (indexed_of x))
-    (λ (xs : List IndexedNode). below_in c.args.lattices (indexed_of c.args.it.now) (map indexed_of xs)) refl (λ x xs. refl)
-    c.args.graph.now c.loop-other.graph c.add_one.new.graph c.in_err-add_one.field-0.0 c.args.others.now
-    c.loop-other.other-index c.other-item.result c.other-item.is within c.loop-other.invariant c.in_err-add_one.ensures.err)
+    rw (failed.1, failed.2) (stops_at_one (λ (x : IndexedNode). below_one c.args.lattices (indexed_of c.args.it.now)
+    (indexed_of x)) (λ (xs : List IndexedNode). below_in c.args.lattices (indexed_of c.args.it.now)
+    (map indexed_of xs)) refl (λ x xs. refl) c.args.graph.now c.loop-other.graph c.add_one.new.graph
+    c.in_err-add_one.field-0.0 c.args.others.now c.loop-other.other-index c.other-item.result c.other-item.is within
+    c.loop-other.invariant c.in_err-add_one.ensures.err)

@@ -11,7 +11,8 @@ use Rattle.row_adding.proofs.naming.plain_name.Goals as goal
 -- where the index words of a name halt, its row halts behind its annotations
 pub returns-in_err-index_name-clause-err : goal.returns-in_err-index_name-clause-err
 returns-in_err-index_name-clause-err c =
-    let failed = err_from_is_err_and c.from_residual-in_err-index_name.result c.from_residual-in_err-index_name.ensures.1 in
+    let failed =
+    err_from_is_err_and c.from_residual-in_err-index_name.result c.from_residual-in_err-index_name.ensures.1 in
     rw (failed.1, failed.2)
     (λ w s.
     let d = declared_of (type c.args.known.now) c.args.declared.now in

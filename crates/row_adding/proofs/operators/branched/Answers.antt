@@ -11,5 +11,6 @@ returns-clause-err c =
     let k = c.args.known.now in
     let own = skel k c.args.own in
     halts_behind c.flowing_in_all-2.result k c.args.graph.now c.flowing_in_all.new.graph c.flowing_in_all-2.new.graph
-    (λ w. flowing false (skel k c.args.first) own (all_lattices w) c.args.span.now) (λ w. flowing false (skel k c.args.last) own (all_lattices w) c.args.span.now)
-    c.in_ok-flowing_in_all.ensures.ok c.flowing_in_all-2.ensures.err
+    (λ w. flowing false (skel k c.args.first) own (all_lattices w) c.args.span.now)
+    (λ w. flowing false (skel k c.args.last) own (all_lattices w) c.args.span.now) c.in_ok-flowing_in_all.ensures.ok
+    c.flowing_in_all-2.ensures.err

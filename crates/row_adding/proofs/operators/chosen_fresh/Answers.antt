@@ -9,5 +9,5 @@ pub returns-clause-err : goal.returns-clause-err
 returns-clause-err c =
     let k = c.args.known.now in
     halts_behind c.branched.result k c.args.graph.now c.form.new.graph c.branched.new.graph
-    (λ w. formed w c.args.span.now (skel k c.args.own)) (λ w. rows.branched w (skel k c.args.first) (skel k c.args.last) (skel k c.args.own) c.args.span.now)
-    c.in_ok-form.ensures.ok c.branched.ensures.err
+    (λ w. formed w c.args.span.now (skel k c.args.own)) (λ w. rows.branched w (skel k c.args.first) (skel k c.args.last)
+    (skel k c.args.own) c.args.span.now) c.in_ok-form.ensures.ok c.branched.ensures.err

@@ -23,4 +23,5 @@ returns-clause-err c =
     let last = flowing c.args.last_is_zero (skel k c.args.last) own (all_lattices w) c.args.span.now in
     subst (λ (b : Bool). StopsEarly old new fault (if b then [] else first ++ last))
     (sym c.if-computes_none.false ∙ c.computes_none.ensures)
-    (stop_back old middle new fault first last (c.in_ok-flowing_in_all.ensures.ok w s) (stop w s))) c.flowing_in_all-2.ensures.err
+    (stop_back old middle new fault first last (c.in_ok-flowing_in_all.ensures.ok w s) (stop w s)))
+    c.flowing_in_all-2.ensures.err

@@ -10,5 +10,5 @@ pub returns-clause-err : goal.returns-clause-err
 returns-clause-err c =
     let k = c.args.known.now in
     halts_behind c.annotate_literal.result k c.args.graph.now c.form_here.new.graph c.annotate_literal.new.graph
-    (λ w. rows.formed_here w c.args.token) (λ w. rows.annotating_place w (option_map (type k) c.args.ty.now) (vals.own w c.args.token))
-    c.in_ok-form_here.ensures.ok c.annotate_literal.ensures.err
+    (λ w. rows.formed_here w c.args.token) (λ w. rows.annotating_place w (option_map (type k) c.args.ty.now)
+    (vals.own w c.args.token)) c.in_ok-form_here.ensures.ok c.annotate_literal.ensures.err

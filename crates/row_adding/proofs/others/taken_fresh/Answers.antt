@@ -16,8 +16,9 @@ returns-clause-err c =
     let new = c.taken_of_type.new.graph in
     let ty = option_map (type k) c.args.ty.now in
     let list = skel k c.args.list in
-    IfErr-weaker c.taken_of_type.result (λ fault. Halts k middle new fault (λ w. rows.taken_of_type w c.args.token ty list c.args.span.now)) _
-    (λ fault stop w s. subst (λ t. StopsEarly old new fault (formed w c.args.span.now t ++ rows.taken_of_type w c.args.token ty list c.args.span.now)) (c.own.ensures w s)
-    (stop_back old middle new fault (formed w c.args.span.now (skel k c.own.result)) (rows.taken_of_type w c.args.token ty list c.args.span.now)
-    (c.in_ok-form.ensures.ok w s) (stop w s)))
-    c.taken_of_type.ensures.err
+    IfErr-weaker c.taken_of_type.result
+    (λ fault. Halts k middle new fault (λ w. rows.taken_of_type w c.args.token ty list c.args.span.now)) _
+    (λ fault stop w s. subst (λ t. StopsEarly old new fault (formed w c.args.span.now t
+    ++ rows.taken_of_type w c.args.token ty list c.args.span.now)) (c.own.ensures w s) (stop_back old middle new fault
+    (formed w c.args.span.now (skel k c.own.result)) (rows.taken_of_type w c.args.token ty list c.args.span.now)
+    (c.in_ok-form.ensures.ok w s) (stop w s))) c.taken_of_type.ensures.err

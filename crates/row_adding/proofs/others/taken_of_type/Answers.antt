@@ -17,8 +17,10 @@ returns-in_err-annotate_some-clause-err c =
     let list = skel k c.args.list in
     let failed = err_from_is_err_and c.from_residual.result c.from_residual.ensures.1 in
     rw (failed.1, failed.2)
-    (λ w s. subst (λ t. StopsEarly old new fault (rows.annotating_some w ty t ++ rows.taken w list t c.args.span.now)) (c.own-own.ensures w s)
-    (stop_front old new fault (rows.annotating_some w ty (skel k c.own-own.result)) (rows.taken w list (skel k c.own-own.result) c.args.span.now)
+    (λ w s. subst (λ t. StopsEarly old new fault (rows.annotating_some w ty t ++ rows.taken w list t c.args.span.now))
+    (c.own-own.ensures w s)
+    (stop_front old new fault (rows.annotating_some w ty (skel k c.own-own.result))
+    (rows.taken w list (skel k c.own-own.result) c.args.span.now)
     (c.in_err-annotate_some.ensures.err w s)))
 
 -- where the flow of further arguments into what is taken halts, its row halts behind the annotations
@@ -32,6 +34,7 @@ returns-clause-err c =
     let list = skel k c.args.list in
     let own = skel k c.own-own.result in
     IfErr-weaker c.taken.result (λ fault. Halts k middle new fault (λ w. rows.taken w list own c.args.span.now)) _
-    (λ fault stop w s. subst (λ t. StopsEarly old new fault (rows.annotating_some w ty t ++ rows.taken w list t c.args.span.now)) (c.own-own.ensures w s)
-    (stop_back old middle new fault (rows.annotating_some w ty own) (rows.taken w list own c.args.span.now) (c.in_ok-annotate_some.ensures.ok w s) (stop w s)))
-    c.taken.ensures.err
+    (λ fault stop w s. subst
+    (λ t. StopsEarly old new fault (rows.annotating_some w ty t ++ rows.taken w list t c.args.span.now))
+    (c.own-own.ensures w s) (stop_back old middle new fault (rows.annotating_some w ty own)
+    (rows.taken w list own c.args.span.now) (c.in_ok-annotate_some.ensures.ok w s) (stop w s))) c.taken.ensures.err

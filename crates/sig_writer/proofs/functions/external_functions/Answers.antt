@@ -17,11 +17,12 @@ returns c =
     let them = c.found_names-names.result.now in
     let s = names_of t them in
     let same = c.names-known.ensures in
-    let statics : reverse c.statics.result.now ≡ s.statics = c.statics.ensures t ∙ ap (λ (k : Names). (names_of t k).statics) same in
+    let statics : reverse c.statics.result.now ≡ s.statics =
+    c.statics.ensures t ∙ ap (λ (k : Names). (names_of t k).statics) same in
     let things : c.things.result.now ≡ reverse s.things =
-    sym (reverse-reverse c.things.result.now) ∙ ap reverse (c.things.ensures t ∙ ap (λ (k : Names). (names_of t k).things) same) in
-    IfOk-weaker c.first_functions.result _ _
-    (λ it is. is t (subst (λ (all : List (ℕ × ℕ)). AreStatics all c.in_ok-statics.statics.known) statics c.in_ok-statics.ensures)
+    sym (reverse-reverse c.things.result.now)
+    ∙ ap reverse (c.things.ensures t ∙ ap (λ (k : Names). (names_of t k).things) same) in
+    IfOk-weaker c.first_functions.result _ _ (λ it is. is t
+    (subst (λ (all : List (ℕ × ℕ)). AreStatics all c.in_ok-statics.statics.known) statics c.in_ok-statics.ensures)
     ∙ ap (λ (all : List (ℕ × Place)). map (λ it. it.1) (filter (is_first s) all)) things
-    ∙ ap (λ (k : Names). functions_in (names_of t k)) c.found_names-names.ensures)
-    c.first_functions.ensures
+    ∙ ap (λ (k : Names). functions_in (names_of t k)) c.found_names-names.ensures) c.first_functions.ensures

@@ -1,6 +1,7 @@
 use Rattle.std.proofs.Common.{arith, ap, ◌∙◌, sym, ◌++◌, ℕ, List}
+use Rattle.qual_base.proofs.Lists.{take_whole}
 use Rattle.sig_writer.specs.Nodes.{all_nodes_in, nodes_in}
-use Rattle.sig_writer.proofs.Taken.{whole, flat_more}
+use Rattle.sig_writer.proofs.Taken.{flat_more}
 use Rattle.sig_writer.proofs.nodes.signature_vars.Goals as goal
 
 -- the nodes of one function more come behind those of the functions so far
@@ -14,4 +15,5 @@ loop-at-preserved c =
 
 pub returns : goal.returns
 returns c =
-    c.loop-at.invariant ∙ ap (all_nodes_in c.args.skeletons.now) (whole c.args.functions.now c.loop-at.at-index (omega arith))
+    c.loop-at.invariant
+    ∙ ap (all_nodes_in c.args.skeletons.now) (take_whole c.args.functions.now c.loop-at.at-index (omega arith))

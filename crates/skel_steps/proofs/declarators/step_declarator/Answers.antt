@@ -9,7 +9,8 @@ pub returns-in-DeclName : goal.returns-in-DeclName
 returns-in-DeclName c =
     let k = c.args.known.now in
     let st = state_of k c.args.stacks.now in
-    on_ok_weaker c.name.result (λ done w shows. done (tables_of k) ∙ ap (steps.declr_step w st) (sym c.in-DeclName.is)) c.name.ensures
+    on_ok_weaker c.name.result
+    (λ done w shows. done (tables_of k) ∙ ap (steps.declr_step w st) (sym c.in-DeclName.is)) c.name.ensures
 
 -- the begin of a list of parameters leaves the stacks as they are
 pub returns-in-ParamsBegin : goal.returns-in-ParamsBegin
@@ -58,21 +59,24 @@ pub returns-in-Declare : goal.returns-in-Declare
 returns-in-Declare c =
     let k = c.args.known.now in
     let st = state_of k c.args.stacks.now in
-    on_ok_weaker c.declare.result (λ done w shows. done (tables_of k) ∙ ap (steps.declr_step w st) (sym c.in-Declare.is)) c.declare.ensures
+    on_ok_weaker c.declare.result
+    (λ done w shows. done (tables_of k) ∙ ap (steps.declr_step w st) (sym c.in-Declare.is)) c.declare.ensures
 
 -- a member that is declared leaves the name of its declaration
 pub returns-in-Member : goal.returns-in-Member
 returns-in-Member c =
     let k = c.args.known.now in
     let st = state_of k c.args.stacks.now in
-    on_ok_weaker c.leave_name.result (λ done w shows. done (tables_of k) ∙ ap (steps.declr_step w st) (sym c.in-Member.is)) c.leave_name.ensures
+    on_ok_weaker c.leave_name.result
+    (λ done w shows. done (tables_of k) ∙ ap (steps.declr_step w st) (sym c.in-Member.is)) c.leave_name.ensures
 
 -- the name of a type closes its declaration and leaves the type
 pub returns-in-TypeName : goal.returns-in-TypeName
 returns-in-TypeName c =
     let k = c.args.known.now in
     let st = state_of k c.args.stacks.now in
-    on_ok_weaker c.type_name.result (λ done w shows. done w shows ∙ ap (steps.declr_step w st) (sym c.in-TypeName.is)) c.type_name.ensures
+    on_ok_weaker c.type_name.result
+    (λ done w shows. done w shows ∙ ap (steps.declr_step w st) (sym c.in-TypeName.is)) c.type_name.ensures
 
 -- the end of a declaration closes it
 pub returns-in-DeclarationEnd : goal.returns-in-DeclarationEnd
@@ -93,7 +97,8 @@ pub returns-in-AutoEnd : goal.returns-in-AutoEnd
 returns-in-AutoEnd c =
     let k = c.args.known.now in
     let st = state_of k c.args.stacks.now in
-    on_ok_weaker c.declare-in-AutoEnd.result (λ done w shows. done (tables_of k) ∙ ap (steps.declr_step w st) (sym c.in-AutoEnd.is)) c.declare-in-AutoEnd.ensures
+    on_ok_weaker c.declare-in-AutoEnd.result
+    (λ done w shows. done (tables_of k) ∙ ap (steps.declr_step w st) (sym c.in-AutoEnd.is)) c.declare-in-AutoEnd.ensures
 
 -- an identifier of a list leaves the stacks as they are
 pub returns-in-Identifier : goal.returns-in-Identifier
@@ -107,4 +112,5 @@ pub returns-in-OldParam : goal.returns-in-OldParam
 returns-in-OldParam c =
     let k = c.args.known.now in
     let st = state_of k c.args.stacks.now in
-    on_ok_weaker c.declare-in-OldParam.result (λ done w shows. done (tables_of k) ∙ ap (steps.declr_step w st) (sym c.in-OldParam.is)) c.declare-in-OldParam.ensures
+    on_ok_weaker c.declare-in-OldParam.result (λ done w shows. done (tables_of k)
+    ∙ ap (steps.declr_step w st) (sym c.in-OldParam.is)) c.declare-in-OldParam.ensures

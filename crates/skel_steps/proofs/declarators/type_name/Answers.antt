@@ -13,5 +13,7 @@ returns c =
     let k = c.args.known.now in
     let st = state_of k c.args.stacks.now in
     on_ok_weaker c.put_type.result (λ put w shows. put (tables_of k) ∙
-    (ap (states.operand_put 0 (states.named_type (option_map (type k) c.type_named-ty.result))) (c.close.ensures (tables_of k))
-    ∙ ap (λ (t : Option CType). states.operand_put 0 (states.named_type t) (steps.closed st)) (c.type_named-ty.ensures w shows))) c.put_type.ensures
+    (ap (states.operand_put 0 (states.named_type (option_map (type k) c.type_named-ty.result)))
+    (c.close.ensures (tables_of k))
+    ∙ ap (λ (t : Option CType). states.operand_put 0 (states.named_type t) (steps.closed st))
+    (c.type_named-ty.ensures w shows))) c.put_type.ensures

@@ -12,5 +12,7 @@ returns c =
     let k = c.args.known.now in
     let st = state_of k c.args.stacks.now in
     on_ok_weaker c.put_value.result (λ put last w shows. put (tables_of k) ∙
-    (ap (λ (s : Skel). states.operand_put 2 (states.expression (vals.a_value s) c.is_zero_cast-is_zero.result) st) (c.own-own.ensures w shows)
-    ∙ ap (λ (z : Bool). states.operand_put 2 (states.expression (vals.a_value (vals.own w c.args.token)) z) st) c.is_zero_cast-is_zero.ensures)) c.put_value.ensures
+    (ap (λ (s : Skel). states.operand_put 2 (states.expression (vals.a_value s) c.is_zero_cast-is_zero.result) st)
+    (c.own-own.ensures w shows)
+    ∙ ap (λ (z : Bool). states.operand_put 2 (states.expression (vals.a_value (vals.own w c.args.token)) z) st)
+    c.is_zero_cast-is_zero.ensures)) c.put_value.ensures

@@ -12,4 +12,5 @@ returns c =
     let st = state_of k c.args.stacks.now in
     on_ok_weaker c.begin_list.result (λ done w shows. done (tables_of k) ∙
     ap (λ (t : Option Skel). record st { braces = steps.list_of t ∷ st.braces })
-    (c.target_in-target.ensures w shows ∙ ap (steps.target_in w) (c.braces-it.ensures (tables_of k)))) c.begin_list.ensures
+    (c.target_in-target.ensures w shows
+    ∙ ap (steps.target_in w) (c.braces-it.ensures (tables_of k)))) c.begin_list.ensures

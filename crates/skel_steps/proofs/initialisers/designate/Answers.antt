@@ -10,4 +10,5 @@ returns c =
     let k = c.args.known.now in
     let st = state_of k c.args.stacks.now in
     on_ok_weaker c.replace_braces.result (λ done token w shows. done (tables_of k) (steps.with_member w c.args.name)
-    (c.in_ok-next.ensures w shows ∙ ap (steps.with_member w c.args.name) (c.braces-it.ensures (tables_of k)))) c.replace_braces.ensures
+    (c.in_ok-next.ensures w shows
+    ∙ ap (steps.with_member w c.args.name) (c.braces-it.ensures (tables_of k)))) c.replace_braces.ensures

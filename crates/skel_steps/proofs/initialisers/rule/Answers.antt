@@ -12,4 +12,5 @@ returns c =
     let st = state_of k c.args.stacks.now in
     on_ok_weaker c.go_through.result (λ done w shows. done (tables_of k) ∙
     ap (λ (t : Option Skel). steps.gone_through t st)
-    (c.initialised_by-target.ensures w shows ∙ ap (steps.initialised_by w) (c.declared_last-token.ensures (tables_of k)))) c.go_through.ensures
+    (c.initialised_by-target.ensures w shows
+    ∙ ap (steps.initialised_by w) (c.declared_last-token.ensures (tables_of k)))) c.go_through.ensures

@@ -18,49 +18,56 @@ pub returns-in-Begin : goal.returns-in-Begin
 returns-in-Begin c =
     let k = c.args.known.now in
     let st = state_of k c.args.stacks.now in
-    on_ok_weaker c.begin.result (λ done w shows. done (tables_of k) ∙ ap (steps.init_step w st) (sym c.in-Begin.is)) c.begin.ensures
+    on_ok_weaker c.begin.result
+    (λ done w shows. done (tables_of k) ∙ ap (steps.init_step w st) (sym c.in-Begin.is)) c.begin.ensures
 
 -- the op of the rule goes through the initialiser of the name declared last
 pub returns-in-Rule : goal.returns-in-Rule
 returns-in-Rule c =
     let k = c.args.known.now in
     let st = state_of k c.args.stacks.now in
-    on_ok_weaker c.rule.result (λ done w shows. done w shows ∙ ap (steps.init_step w st) (sym c.in-Rule.is)) c.rule.ensures
+    on_ok_weaker c.rule.result
+    (λ done w shows. done w shows ∙ ap (steps.init_step w st) (sym c.in-Rule.is)) c.rule.ensures
 
 -- the op of a list in braces begins it at the next target
 pub returns-in-ListBegin : goal.returns-in-ListBegin
 returns-in-ListBegin c =
     let k = c.args.known.now in
     let st = state_of k c.args.stacks.now in
-    on_ok_weaker c.begin_list.result (λ done w shows. done w shows ∙ ap (steps.init_step w st) (sym c.in-ListBegin.is)) c.begin_list.ensures
+    on_ok_weaker c.begin_list.result
+    (λ done w shows. done w shows ∙ ap (steps.init_step w st) (sym c.in-ListBegin.is)) c.begin_list.ensures
 
 -- the op of a member designator names its target
 pub returns-in-Member : goal.returns-in-Member
 returns-in-Member c =
     let k = c.args.known.now in
     let st = state_of k c.args.stacks.now in
-    on_ok_weaker c.designate.result (λ done w shows. done c.in-Member.token w shows ∙ ap (steps.init_step w st) (sym c.in-Member.is)) c.designate.ensures
+    on_ok_weaker c.designate.result (λ done w shows. done c.in-Member.token w shows
+    ∙ ap (steps.init_step w st) (sym c.in-Member.is)) c.designate.ensures
 
 -- the op of an index designator notes it in the list
 pub returns-in-Index : goal.returns-in-Index
 returns-in-Index c =
     let k = c.args.known.now in
     let st = state_of k c.args.stacks.now in
-    on_ok_weaker c.index.result (λ done w shows. done k.types.now ∙ ap (steps.init_step w st) (sym c.in-Index.is)) c.index.ensures
+    on_ok_weaker c.index.result
+    (λ done w shows. done k.types.now ∙ ap (steps.init_step w st) (sym c.in-Index.is)) c.index.ensures
 
 -- an item takes the next of the operands that are left
 pub returns-in-Leaf : goal.returns-in-Leaf
 returns-in-Leaf c =
     let k = c.args.known.now in
     let st = state_of k c.args.stacks.now in
-    on_ok_weaker c.take_leaf.result (λ done w shows. done (tables_of k) ∙ ap (steps.init_step w st) (sym c.in-Leaf.is)) c.take_leaf.ensures
+    on_ok_weaker c.take_leaf.result
+    (λ done w shows. done (tables_of k) ∙ ap (steps.init_step w st) (sym c.in-Leaf.is)) c.take_leaf.ensures
 
 -- the end of a list leaves it, and passes it as an item of the outer one
 pub returns-in-ListEnd : goal.returns-in-ListEnd
 returns-in-ListEnd c =
     let k = c.args.known.now in
     let st = state_of k c.args.stacks.now in
-    on_ok_weaker c.leave_list.result (λ done w shows. done (tables_of k) ∙ ap (steps.init_step w st) (sym c.in-ListEnd.is)) c.leave_list.ensures
+    on_ok_weaker c.leave_list.result
+    (λ done w shows. done (tables_of k) ∙ ap (steps.init_step w st) (sym c.in-ListEnd.is)) c.leave_list.ensures
 
 -- the end of an initialiser in braces drops its operands
 pub returns-in-End : goal.returns-in-End
@@ -74,7 +81,8 @@ pub returns-in-LiteralEnd : goal.returns-in-LiteralEnd
 returns-in-LiteralEnd c =
     let k = c.args.known.now in
     let st = state_of k c.args.stacks.now in
-    on_ok_weaker c.leave_literal.result (λ done w shows. done k.types.now ∙ ap (steps.init_step w st) (sym c.in-LiteralEnd.is)) c.leave_literal.ensures
+    on_ok_weaker c.leave_literal.result
+    (λ done w shows. done k.types.now ∙ ap (steps.init_step w st) (sym c.in-LiteralEnd.is)) c.leave_literal.ensures
 
 -- the op of a compound literal goes through its operands at its fresh place
 pub returns-in-Literal : goal.returns-in-Literal

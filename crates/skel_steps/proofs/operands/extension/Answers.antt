@@ -11,4 +11,5 @@ returns c =
     let k = c.args.known.now in
     let st = state_of k c.args.stacks.now in
     on_ok_weaker c.put.result (λ put token w shows. put (tables_of k) ∙
-    ap (λ (v : vals.Val). states.operand_put 1 (states.expression v false) st) (c.val_at-val.ensures k.types.now)) c.put.ensures
+    ap (λ (v : vals.Val). states.operand_put 1 (states.expression v false) st)
+    (c.val_at-val.ensures k.types.now)) c.put.ensures

@@ -16,4 +16,5 @@ returns c =
     (ap (λ (s : Skel). states.operand_put 0 (states.expression (vals.a_value s) c.is_naught-is_naught.result) st)
     (c.own-own.ensures w shows)
     ∙ ap (λ (z : Bool). states.operand_put 0 (states.expression (vals.a_value (vals.own w c.args.token)) z) st)
-    (c.is_naught-is_naught.ensures ∙ ap (λ (u : Spelling). u.is_naught c.args.token) (sym shows.spelling)))) c.put_value.ensures
+    (c.is_naught-is_naught.ensures ∙ ap (λ (u : Spelling). u.is_naught c.args.token) (sym shows.spelling))))
+    c.put_value.ensures

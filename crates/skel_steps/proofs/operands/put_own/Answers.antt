@@ -12,4 +12,5 @@ returns c =
     let k = c.args.known.now in
     let st = state_of k c.args.stacks.now in
     on_ok_weaker c.put_value.result (λ put w shows. put (tables_of k) ∙
-    ap (λ (s : Skel). states.operand_put c.args.count (states.expression (vals.a_value s) false) st) (c.own.ensures w shows)) c.put_value.ensures
+    ap (λ (s : Skel). states.operand_put c.args.count (states.expression (vals.a_value s) false) st)
+    (c.own.ensures w shows)) c.put_value.ensures

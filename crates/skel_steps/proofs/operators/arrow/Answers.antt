@@ -14,4 +14,5 @@ returns c =
     on_ok_weaker c.put_value.result (λ put token first last w shows. put (tables_of k) ∙
     (λ i. states.operand_put 1 (states.expression
     (vals.a_value ((c.contents-held.ensures ∙ ap vals.contents c.value_at-pointer.ensures) i)) false)
-    ((c.carry.ensures (tables_of k) ∙ (λ j. steps.carrying c.args.aims (c.value_at-pointer.ensures j) st)) i))) c.put_value.ensures
+    ((c.carry.ensures (tables_of k) ∙ (λ j. steps.carrying c.args.aims (c.value_at-pointer.ensures j) st)) i)))
+    c.put_value.ensures

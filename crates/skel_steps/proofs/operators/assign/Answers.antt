@@ -13,4 +13,5 @@ returns c =
     let st = state_of k c.args.stacks.now in
     on_ok_weaker c.put_value.result (λ put sign token first last w shows. put (tables_of k) ∙
     ap (λ (s : Skel). states.operand_put 2 (states.expression (vals.a_value s) false) st)
-    (c.contents-held.ensures ∙ ap (λ (v : vals.Val). vals.contents v.skel) (c.val_at-place.ensures k.types.now))) c.put_value.ensures
+    (c.contents-held.ensures
+    ∙ ap (λ (v : vals.Val). vals.contents v.skel) (c.val_at-place.ensures k.types.now))) c.put_value.ensures

@@ -15,6 +15,9 @@ returns c =
     on_ok_weaker c.put_value.result (λ put first last w shows. put (tables_of k) ∙
     ap (λ (s : Skel). states.operand_put 2 (states.expression (vals.a_value s) false) st)
     (c.binary-value.ensures
-    ∙ (ap (λ (a : Skel). vals.binary_of c.args.sign a (skel k c.value_at-second.result) (skel k c.own.result)) c.value_at-first.ensures
-    ∙ (ap (λ (b : Skel). vals.binary_of c.args.sign (states.value_at 1 st) b (skel k c.own.result)) c.value_at-second.ensures
-    ∙ ap (vals.binary_of c.args.sign (states.value_at 1 st) (states.value_at 0 st)) (c.own.ensures w shows))))) c.put_value.ensures
+    ∙ (ap (λ (a : Skel). vals.binary_of c.args.sign a (skel k c.value_at-second.result)
+    (skel k c.own.result)) c.value_at-first.ensures
+    ∙ (ap
+    (λ (b : Skel). vals.binary_of c.args.sign (states.value_at 1 st) b (skel k c.own.result)) c.value_at-second.ensures
+    ∙ ap (vals.binary_of c.args.sign (states.value_at 1 st) (states.value_at 0 st)) (c.own.ensures w shows)))))
+    c.put_value.ensures

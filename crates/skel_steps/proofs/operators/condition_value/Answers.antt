@@ -9,5 +9,5 @@ returns c =
     let k = c.args.known.now in
     let st = state_of k c.args.stacks.now in
     λ w shows. c.branch-known.ensures w shows ∙
-    (λ i. vals.branch w (c.is_zero_at-first_is_zero.ensures (tables_of k) i) (c.is_zero_at-last_is_zero.ensures (tables_of k) i)
-    c.args.token (c.value_at-first.ensures i) (c.value_at-second.ensures i))
+    (λ i. vals.branch w (c.is_zero_at-first_is_zero.ensures (tables_of k) i) (c.is_zero_at-last_is_zero.ensures
+    (tables_of k) i) c.args.token (c.value_at-first.ensures i) (c.value_at-second.ensures i))

@@ -12,7 +12,8 @@ returns c =
     let k = c.args.known.now in
     let st = state_of k c.args.stacks.now in
     let place = c.indexed-place.ensures ∙
-    (λ i. if vals.is_ref (c.value_at-first.ensures i) then c.value_at-first.ensures i else c.value_at-second.ensures i) in
+    (λ i. if vals.is_ref (c.value_at-first.ensures i) then c.value_at-first.ensures i
+    else c.value_at-second.ensures i) in
     on_ok_weaker c.put.result (λ put token first last w shows.
     let is = c.is_vector_index-is_vector.ensures w shows ∙
     (λ i. vals.is_vector_index w.spelling.wide (c.value_at-first.ensures i) (c.value_at-second.ensures i)) in

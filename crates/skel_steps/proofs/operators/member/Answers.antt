@@ -13,4 +13,5 @@ returns c =
     let st = state_of k c.args.stacks.now in
     on_ok_weaker c.put_place.result (λ put token member w shows. put (tables_of k) ∙
     ap (λ (s : Skel). states.operand_put 1 (states.expression (vals.a_place s) false) st)
-    (c.member-found.ensures w shows ∙ ap (λ (s : Skel). vals.member_skel w s c.args.name) c.value_at.ensures)) c.put_place.ensures
+    (c.member-found.ensures w shows
+    ∙ ap (λ (s : Skel). vals.member_skel w s c.args.name) c.value_at.ensures)) c.put_place.ensures

@@ -14,7 +14,8 @@ returns c =
     on_ok_weaker c.put.result (λ put last w shows. put (tables_of k) ∙
     (λ i. states.operand_put 1 (states.expression
     ((c.prefix-val.ensures w shows ∙
-    ap (λ (v : vals.Val). vals.prefix_of w c.args.token c.args.sign v c.args.aims) (c.val_at-operand.ensures k.types.now)) i) false)
+    ap (λ (v : vals.Val). vals.prefix_of w c.args.token c.args.sign v c.args.aims)
+    (c.val_at-operand.ensures k.types.now)) i) false)
     ((c.carry.ensures (tables_of k) ∙
     (λ j. steps.carrying (c.is_come_by.ensures j)
     ((c.value-pointer.ensures ∙ ap vals.value (c.val_at-operand.ensures k.types.now)) j) st)) i))) c.put.ensures

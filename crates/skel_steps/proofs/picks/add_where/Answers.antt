@@ -10,6 +10,7 @@ returns-then-is c = λ all p.
     let k = c.args.known.now in
     let st = state_of k c.args.stacks.now in
     subst (λ some. IsPickedVal k.vars.now some c.add.new.self)
-    ((λ i. all ++ record { val = c.val_at.ensures k.types.now i; is_zero = c.is_zero_at.ensures (tables_of k) i } ∷ []) ∙
+    ((λ i. all
+    ++ record { val = c.val_at.ensures k.types.now i; is_zero = c.is_zero_at.ensures (tables_of k) i } ∷ []) ∙
     ap (λ b. with_candidate b all (candidate_at c.args.depth st)) (sym c.if-is.true))
     (c.add.ensures k.vars.now all p)

@@ -12,4 +12,5 @@ returns c =
     let k = c.args.known.now in
     let st = state_of k c.args.stacks.now in
     on_ok_weaker c.put.result (λ put w shows. put (tables_of k) ∙
-    ap (λ (v : vals.Val). states.put 2 v st) (c.val-val.ensures w shows (steps.chosen st) c.chosen.ensures)) c.put.ensures
+    ap (λ (v : vals.Val). states.put 2 v st)
+    (c.val-val.ensures w shows (steps.chosen st) c.chosen.ensures)) c.put.ensures

@@ -18,4 +18,5 @@ returns c =
     on_ok_weaker c.put.result (λ put w shows. put (tables_of k) ∙
     (ap (λ (n : ℕ). states.put n (val k c.val-val.result) st) e ∙
     ap (λ (v : vals.Val). states.put (suc (twice c.args.count)) v st)
-    (c.val-val.ensures w shows (steps.selected w c.args.token 0 c.args.count st) (c.selected.ensures w shows)))) c.put.ensures
+    (c.val-val.ensures w shows (steps.selected w c.args.token 0 c.args.count st) (c.selected.ensures w shows))))
+    c.put.ensures

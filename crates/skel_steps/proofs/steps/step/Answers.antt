@@ -9,4 +9,5 @@ returns c =
     let k = c.args.known.now in
     let st = state_of k c.args.stacks.now in
     on_ok_weaker c.step_stacks.result (λ done w shows. stepped w st (state_of k c.pass_around.new.self)
-    (state_of k c.step_stacks.new.stacks) c.args.op.now (c.in_ok-pass_around.ensures (tables_of k)) (done w shows)) c.step_stacks.ensures
+    (state_of k c.step_stacks.new.stacks) c.args.op.now (c.in_ok-pass_around.ensures (tables_of k))
+    (done w shows)) c.step_stacks.ensures

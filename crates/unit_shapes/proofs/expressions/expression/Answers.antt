@@ -24,7 +24,8 @@ returns-in-Number c =
     let s = names_in rows c.args.names.now in
     let st = state_in rows c.args.stacks.now in
     on_ok_weaker c.number.result
-    (λ done. done u s c.in-Number.token c.is_naught.ensures ∙ ap (steps.expr_step u s st) (sym c.in-Number.is)) c.number.ensures
+    (λ done. done u s c.in-Number.token c.is_naught.ensures
+    ∙ ap (steps.expr_step u s st) (sym c.in-Number.is)) c.number.ensures
 
 -- a `Char` pushes a value of the base type
 pub returns-in-Char : goal.returns-in-Char
@@ -74,7 +75,8 @@ returns-in-Assign c =
     let s = names_in rows c.args.names.now in
     let st = state_in rows c.args.stacks.now in
     on_ok_weaker c.assign.result
-    (λ done. done rows u s c.in-Assign.sign c.in-Assign.token c.in-Assign.first c.in-Assign.last ∙ ap (steps.expr_step u s st) (sym c.in-Assign.is)) c.assign.ensures
+    (λ done. done rows u s c.in-Assign.sign c.in-Assign.token c.in-Assign.first c.in-Assign.last
+    ∙ ap (steps.expr_step u s st) (sym c.in-Assign.is)) c.assign.ensures
 
 -- a `Cond` puts the common type of its last two operands in place of all, three or two
 pub returns-in-Cond : goal.returns-in-Cond
@@ -84,7 +86,8 @@ returns-in-Cond c =
     let s = names_in rows c.args.names.now in
     let st = state_in rows c.args.stacks.now in
     on_ok_weaker c.condition.result
-    (λ done. done u s c.in-Cond.token c.in-Cond.first c.in-Cond.last ∙ ap (steps.expr_step u s st) (sym c.in-Cond.is)) c.condition.ensures
+    (λ done. done u s c.in-Cond.token c.in-Cond.first c.in-Cond.last
+    ∙ ap (steps.expr_step u s st) (sym c.in-Cond.is)) c.condition.ensures
 
 -- a `Binary` puts a value of the operator's type in place of both operands
 pub returns-in-Binary : goal.returns-in-Binary
@@ -94,7 +97,8 @@ returns-in-Binary c =
     let s = names_in rows c.args.names.now in
     let st = state_in rows c.args.stacks.now in
     on_ok_weaker c.binary.result
-    (λ done. done u s c.in-Binary.token c.in-Binary.first c.in-Binary.last ∙ ap (steps.expr_step u s st) (sym c.in-Binary.is)) c.binary.ensures
+    (λ done. done u s c.in-Binary.token c.in-Binary.first c.in-Binary.last
+    ∙ ap (steps.expr_step u s st) (sym c.in-Binary.is)) c.binary.ensures
 
 -- a `Prefix` puts what its operator makes of the operand's shape in its place
 pub returns-in-Prefix : goal.returns-in-Prefix
@@ -104,7 +108,8 @@ returns-in-Prefix c =
     let s = names_in rows c.args.names.now in
     let st = state_in rows c.args.stacks.now in
     on_ok_weaker c.prefix.result
-    (λ done. done u s c.in-Prefix.token c.in-Prefix.last c.in-Prefix.aims ∙ ap (steps.expr_step u s st) (sym c.in-Prefix.is)) c.prefix.ensures
+    (λ done. done u s c.in-Prefix.token c.in-Prefix.last c.in-Prefix.aims
+    ∙ ap (steps.expr_step u s st) (sym c.in-Prefix.is)) c.prefix.ensures
 
 -- a `Post` puts its operand's value in its place
 pub returns-in-Post : goal.returns-in-Post
@@ -114,7 +119,8 @@ returns-in-Post c =
     let s = names_in rows c.args.names.now in
     let st = state_in rows c.args.stacks.now in
     on_ok_weaker c.post.result
-    (λ done. done u s c.in-Post.sign c.in-Post.token c.in-Post.first ∙ ap (steps.expr_step u s st) (sym c.in-Post.is)) c.post.ensures
+    (λ done. done u s c.in-Post.sign c.in-Post.token c.in-Post.first
+    ∙ ap (steps.expr_step u s st) (sym c.in-Post.is)) c.post.ensures
 
 -- an `Index` puts the element's shape in place of both operands
 pub returns-in-Index : goal.returns-in-Index
@@ -124,7 +130,8 @@ returns-in-Index c =
     let s = names_in rows c.args.names.now in
     let st = state_in rows c.args.stacks.now in
     on_ok_weaker c.index.result
-    (λ done. done u s c.in-Index.token c.in-Index.first c.in-Index.last c.in-Index.aims refl ∙ ap (steps.expr_step u s st) (sym c.in-Index.is)) c.index.ensures
+    (λ done. done u s c.in-Index.token c.in-Index.first c.in-Index.last c.in-Index.aims refl
+    ∙ ap (steps.expr_step u s st) (sym c.in-Index.is)) c.index.ensures
 
 -- a `Call` puts a value of the result type in place of the arguments and the called value under them
 pub returns-in-Call : goal.returns-in-Call
@@ -144,7 +151,8 @@ returns-in-Arrow c =
     let s = names_in rows c.args.names.now in
     let st = state_in rows c.args.stacks.now in
     on_ok_weaker c.arrow.result
-    (λ done. done u s c.in-Arrow.token c.in-Arrow.first c.in-Arrow.last c.in-Arrow.aims ∙ ap (steps.expr_step u s st) (sym c.in-Arrow.is)) c.arrow.ensures
+    (λ done. done u s c.in-Arrow.token c.in-Arrow.first c.in-Arrow.last c.in-Arrow.aims
+    ∙ ap (steps.expr_step u s st) (sym c.in-Arrow.is)) c.arrow.ensures
 
 -- a `Dot` puts the place of the member in place of its struct
 pub returns-in-Dot : goal.returns-in-Dot

@@ -44,7 +44,8 @@ returns-in-VaArg c =
     let s = names_in rows c.args.names.now in
     let st = state_in rows c.args.stacks.now in
     on_ok_weaker c.va_arg.result
-    (λ done. done rows u s c.in-VaArg.token c.in-VaArg.last ∙ ap (steps.form_step u s st) (sym c.in-VaArg.is)) c.va_arg.ensures
+    (λ done. done rows u s c.in-VaArg.token c.in-VaArg.last
+    ∙ ap (steps.form_step u s st) (sym c.in-VaArg.is)) c.va_arg.ensures
 
 -- a `VaStart` puts a value of `void` in place of its two operands
 pub returns-in-VaStart : goal.returns-in-VaStart
@@ -54,7 +55,8 @@ returns-in-VaStart c =
     let s = names_in rows c.args.names.now in
     let st = state_in rows c.args.stacks.now in
     on_ok_weaker c.variadic.result
-    (λ done. done u s c.in-VaStart.token c.in-VaStart.last ∙ ap (steps.form_step u s st) (sym c.in-VaStart.is)) c.variadic.ensures
+    (λ done. done u s c.in-VaStart.token c.in-VaStart.last
+    ∙ ap (steps.form_step u s st) (sym c.in-VaStart.is)) c.variadic.ensures
 
 -- a `VaCopy` puts a value of `void` in place of the two lists
 pub returns-in-VaCopy : goal.returns-in-VaCopy
@@ -64,7 +66,8 @@ returns-in-VaCopy c =
     let s = names_in rows c.args.names.now in
     let st = state_in rows c.args.stacks.now in
     on_ok_weaker c.variadic-in-VaCopy.result
-    (λ done. done u s c.in-VaCopy.token c.in-VaCopy.last ∙ ap (steps.form_step u s st) (sym c.in-VaCopy.is)) c.variadic-in-VaCopy.ensures
+    (λ done. done u s c.in-VaCopy.token c.in-VaCopy.last
+    ∙ ap (steps.form_step u s st) (sym c.in-VaCopy.is)) c.variadic-in-VaCopy.ensures
 
 -- an `OffsetMember` puts the member's type in place of the type on top
 pub returns-in-OffsetMember : goal.returns-in-OffsetMember
@@ -74,7 +77,8 @@ returns-in-OffsetMember c =
     let s = names_in rows c.args.names.now in
     let st = state_in rows c.args.stacks.now in
     on_ok_weaker c.offset_member.result
-    (λ done. done c.in-OffsetMember.token ∙ ap (steps.form_step u s st) (sym c.in-OffsetMember.is)) c.offset_member.ensures
+    (λ done. done c.in-OffsetMember.token
+    ∙ ap (steps.form_step u s st) (sym c.in-OffsetMember.is)) c.offset_member.ensures
 
 -- an `OffsetIndex` puts the element's type in place of the index and the type under it
 pub returns-in-OffsetIndex : goal.returns-in-OffsetIndex
@@ -84,7 +88,8 @@ returns-in-OffsetIndex c =
     let s = names_in rows c.args.names.now in
     let st = state_in rows c.args.stacks.now in
     on_ok_weaker c.offset_index.result
-    (λ done. done u s c.in-OffsetIndex.token ∙ ap (steps.form_step u s st) (sym c.in-OffsetIndex.is)) c.offset_index.ensures
+    (λ done. done u s c.in-OffsetIndex.token
+    ∙ ap (steps.form_step u s st) (sym c.in-OffsetIndex.is)) c.offset_index.ensures
 
 -- an `Offset` puts a value of the base type in place of the type on top
 pub returns-in-Offset : goal.returns-in-Offset

@@ -10,6 +10,7 @@ use Rattle.unit_shapes.proofs.judge.judge.Given as goal
 abbrev pub invariant-loop-op : goal.invariant-loop-op
 invariant-loop-op l =
     keep (some_fault_of l.best)
-    (faults_found (spelling_of l.spelling) (names_in l.types l.names) (state_in l.types l.stacks) (drop l.op-index l.tape))
+    (faults_found (spelling_of l.spelling) (names_in l.types l.names) (state_in l.types l.stacks)
+    (drop l.op-index l.tape))
     ≡ keep (some_fault_of l.initial.best)
     (faults_found (spelling_of l.spelling) (names_in l.types l.names) (state_in l.types l.initial.stacks) l.tape)

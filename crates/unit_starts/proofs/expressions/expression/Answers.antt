@@ -15,9 +15,8 @@ returns-in-Cond c =
     let st = state_in rows c.args.stacks.now in
     let it = c.in-Cond in
     let known = c.new-around.ensures in
-    c.condition.ensures
-    ∙ fresh_condition u s c.args.rounds.now c.new-around.result known.enclosing known.quiet st it.has_middle it.token it.first
-    it.last c.place-in-Cond.result c.place-in-Cond.ensures
+    c.condition.ensures ∙ fresh_condition u s c.args.rounds.now c.new-around.result known.enclosing known.quiet st
+    it.has_middle it.token it.first it.last c.place-in-Cond.result c.place-in-Cond.ensures
     ∙ ap (expr_op_starts u s st c.args.rounds.now) (sym it.is)
 
 -- an operator before its operand begins a fresh skeleton where the rules begin one, by its sign and its operand
@@ -29,7 +28,6 @@ returns-in-Prefix c =
     let st = state_in rows c.args.stacks.now in
     let it = c.in-Prefix in
     let known = c.new-around.ensures in
-    c.prefix.ensures
-    ∙ fresh_prefix u s c.args.rounds.now c.new-around.result known.enclosing known.quiet st it.sign it.token it.last it.aims
-    c.carries-carries.result c.place-in-Prefix.result c.place-in-Prefix.ensures c.carries-carries.ensures known.access
-    ∙ ap (expr_op_starts u s st c.args.rounds.now) (sym it.is)
+    c.prefix.ensures ∙ fresh_prefix u s c.args.rounds.now c.new-around.result known.enclosing known.quiet st it.sign
+    it.token it.last it.aims c.carries-carries.result c.place-in-Prefix.result c.place-in-Prefix.ensures
+    c.carries-carries.ensures known.access ∙ ap (expr_op_starts u s st c.args.rounds.now) (sym it.is)

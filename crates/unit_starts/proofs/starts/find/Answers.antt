@@ -24,11 +24,12 @@ loop-op-preserved c =
     let st = state_in rows c.loop-op.stacks in
     let done = c.in_ok-pass.ensures in (
       begun_next u s (map (start_in rows) c.loop-op.found) (map (start_in rows) c.pass.new.found) _ st
-          (state_in rows c.pass.new.stacks) c.loop-op.rounds c.pass.new.rounds c.args.tape.now c.loop-op.op-index c.op-item.result
-          c.op-item.is c.loop-op-test.true c.loop-op.invariant.0 done.starts done.rounds done.stacks,
-      at_next u s (state_in rows c.args.stacks.now) st (state_in rows c.pass.new.stacks) c.args.tape.now c.loop-op.op-index
-          c.op-item.result c.args.candidates.now c.loop-op.candidates c.pass.new.candidates c.op-item.is c.loop-op-test.true
-          c.loop-op.invariant.1 done.selections done.stacks,
+          (state_in rows c.pass.new.stacks) c.loop-op.rounds c.pass.new.rounds c.args.tape.now c.loop-op.op-index
+          c.op-item.result c.op-item.is c.loop-op-test.true c.loop-op.invariant.0 done.starts done.rounds done.stacks,
+      at_next u s (state_in rows c.args.stacks.now) st
+          (state_in rows c.pass.new.stacks) c.args.tape.now c.loop-op.op-index
+          c.op-item.result c.args.candidates.now c.loop-op.candidates c.pass.new.candidates c.op-item.is
+          c.loop-op-test.true c.loop-op.invariant.1 done.selections done.stacks,
     )
 
 -- behind the last op the skeletons and the selections are those of the whole tape

@@ -14,6 +14,7 @@ invariant-loop-op l =
     ++ starts_found (spelling_of l.spelling) (names_in l.types l.names) (state_in l.types l.stacks) l.rounds
     (drop l.op-index l.tape)
     ≡ map (start_in l.types) l.initial.found
-    ++ starts_found (spelling_of l.spelling) (names_in l.types l.names) (state_in l.types l.initial.stacks) l.initial.rounds l.tape)
-    × Selected (spelling_of l.spelling) (names_in l.types l.names) (state_in l.types l.initial.stacks) (state_in l.types l.stacks) l.tape
-    l.op-index l.initial.candidates l.candidates
+    ++ starts_found (spelling_of l.spelling) (names_in l.types l.names)
+    (state_in l.types l.initial.stacks) l.initial.rounds l.tape)
+    × Selected (spelling_of l.spelling) (names_in l.types l.names) (state_in l.types l.initial.stacks)
+    (state_in l.types l.stacks) l.tape l.op-index l.initial.candidates l.candidates

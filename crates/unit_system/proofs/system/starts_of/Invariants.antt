@@ -5,4 +5,5 @@ use Rattle.unit_system.proofs.system.starts_of.Given as goal
 
 abbrev pub invariant-loop-unit : goal.invariant-loop-unit
 invariant-loop-unit l =
-    Begun l.access l.program l.units l.unit-index (map (start_in l.program.rows) l.found) l.initial.candidates l.candidates
+    Begun l.access l.program l.units l.unit-index
+    (map (start_in l.program.rows) l.found) l.initial.candidates l.candidates

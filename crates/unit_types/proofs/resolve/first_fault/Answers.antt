@@ -36,12 +36,11 @@ loop-unit-preserved c =
     record {
       so_far = was.so_far ++ found_in s it;
       first =
-          subst
-          (λ (ops : List Op). IsFirstOf (some_fault_of c.judge_tape.new.best)
+          subst (λ (ops : List Op). IsFirstOf (some_fault_of c.judge_tape.new.best)
           (was.so_far ++ faults_found (spelling_of it.spelling) s nothing ops)) c.deref.ensures.value
-          (subst (λ ns. IsFirstOf (some_fault_of c.judge_tape.new.best)
-          (was.so_far ++ faults_found (spelling_of it.spelling) (names_in c.args.types.now ns) nothing c.deref.result.now))
-          c.names.ensures (c.in_ok-judge_tape.ensures was.so_far was.first));
+          (subst (λ ns. IsFirstOf (some_fault_of c.judge_tape.new.best) (was.so_far ++ faults_found
+          (spelling_of it.spelling) (names_in c.args.types.now ns) nothing c.deref.result.now)) c.names.ensures
+          (c.in_ok-judge_tape.ensures was.so_far was.first));
       rest = faults_from s units c.loop-unit.unit-index it was.so_far c.unit-item.is within ∙ was.rest;
     }
 

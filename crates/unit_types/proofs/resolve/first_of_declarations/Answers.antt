@@ -10,7 +10,8 @@ pub returns : goal.returns
 returns c =
     λ t.
     let faults = (names_of t c.args.names.now).faults in
-    let of_bodies = ap (λ (all : List records.Fault). map fault_of all) c.deref.ensures.value ∙ c.in_ok-bodies.ensures t in
+    let of_bodies =
+    ap (λ (all : List records.Fault). map fault_of all) c.deref.ensures.value ∙ c.in_ok-bodies.ensures t in
     subst (λ (fs : List Fault). IsFirstOf (some_fault_of c.keep_of_names.new.best) (faults ++ fs)) of_bodies
     (c.keep_of_names.ensures faults
     (subst (λ ns. IsFirstOf (some_fault_of c.first_of_names-best.result) (names_of t ns).faults) c.names.ensures

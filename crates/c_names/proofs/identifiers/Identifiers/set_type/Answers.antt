@@ -9,7 +9,8 @@ pub returns-in_default : goal.returns-in_default
 returns-in_default c =
     let all = c.self.inside.all in
     let size = all.ok.0 in
-    let beyond : length all.items ≤ c.args.number = let p = past c.args.number _ c.in_default.ensures.variant.1 in omega arith in
+    let beyond : length all.items ≤ c.args.number = let p = past c.args.number _ c.in_default.ensures.variant.1 in
+    omega arith in
     unchanged all.items c.args.number (typed_once c.args.ty) beyond
     ∙ ap (λ xs. changed_at xs c.args.number (typed_once c.args.ty)) c.self.view_is
 
@@ -20,8 +21,8 @@ returns c =
     let size = all.ok.0 in
     let there = c.in-Some.ensures.variant.0 refl in
     let within : c.args.number < length all.items = omega arith in
-    changed all.items c.args.number c.in-Some.it.now c.set_type.new.self (typed_once c.args.ty) within c.in-Some.ensures.value
-    c.set_type.ensures
+    changed all.items c.args.number c.in-Some.it.now c.set_type.new.self
+    (typed_once c.args.ty) within c.in-Some.ensures.value c.set_type.ensures
     ∙ ap (λ xs. changed_at xs c.args.number (typed_once c.args.ty)) c.self.view_is
 
 -- the numbers stay those of the identifiers where one of them gets its type
@@ -32,5 +33,5 @@ invariant_of-self-2 c =
     let there = c.in-Some.ensures.variant.0 refl in
     let within : c.args.number < length all.items = omega arith in
     typed_numbered all.items _ c.args.number c.args.ty c.self.inside.numbers c.self.invariant
-    (changed all.items c.args.number c.in-Some.it.now c.set_type.new.self (typed_once c.args.ty) within c.in-Some.ensures.value
-    c.set_type.ensures)
+    (changed all.items c.args.number c.in-Some.it.now c.set_type.new.self
+    (typed_once c.args.ty) within c.in-Some.ensures.value c.set_type.ensures)

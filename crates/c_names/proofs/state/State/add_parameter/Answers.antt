@@ -8,7 +8,8 @@ use Rattle.c_names.proofs.Low.{declared_low, knows_before}
 use Rattle.c_names.proofs.state.State.add_parameter.Goals as goal
 
 pub push_parameter-requires : goal.push_parameter-requires
-push_parameter-requires c = declared_low c.args.types.now c.args.self.now c.requires c.in-Some.declaration _ c.in-Some.ensures
+push_parameter-requires c =
+    declared_low c.args.types.now c.args.self.now c.requires c.in-Some.declaration _ c.in-Some.ensures
 
 pub returns-in_ok-push_parameter-in-Some-clause-shown : goal.returns-in_ok-push_parameter-in-Some-clause-shown
 unfolding state_of
@@ -21,9 +22,12 @@ pub returns-in_ok-push_parameter-in-None-clause-shown : goal.returns-in_ok-push_
 unfolding state_of
 returns-in_ok-push_parameter-in-None-clause-shown c = λ t p knows.
     let u = spelling_of c.args.spelling.now in
-    let before = knows_before c.args.types.now c.push_parameter-in-None.new.types t c.in_ok-push_parameter-in-None.ensures.grown knows in
+    let before = knows_before c.args.types.now c.push_parameter-in-None.new.types t
+    c.in_ok-push_parameter-in-None.ensures.grown knows in
     c.in_ok-push_parameter-in-None.ensures.shown t p knows
     ∙ ap (λ x. parameter_added u None x (state_of t p (record c.args.self.now { declarations = c.pop.new.self })))
     (c.base-ty.ensures.is t before)
-    ∙ ap (λ ds. parameter_added u None (base []) (state_of t p (record c.args.self.now { declarations = ds }))) c.in-None.ensures.1
-    ∙ ap (λ ds. with_parameter u (state_of t p (record c.args.self.now { declarations = ds }))) (sym c.in-None.ensures.0)
+    ∙ ap (λ ds. parameter_added u None (base [])
+    (state_of t p (record c.args.self.now { declarations = ds }))) c.in-None.ensures.1
+    ∙ ap (λ ds. with_parameter u (state_of t p (record c.args.self.now { declarations = ds })))
+    (sym c.in-None.ensures.0)

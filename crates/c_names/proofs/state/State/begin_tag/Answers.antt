@@ -8,4 +8,5 @@ pub returns : goal.returns
 unfolding state_of
 returns c =
     on_ok_weaker c.open_body.result (λ done t p. done t p
-    ∙ ap (λ b. with_body c.args.kind b (state_of t p c.args.self.now)) (sym (c.in_ok-begun.ensures t))) c.open_body.ensures
+    ∙ ap (λ b. with_body c.args.kind b (state_of t p c.args.self.now))
+    (sym (c.in_ok-begun.ensures t))) c.open_body.ensures

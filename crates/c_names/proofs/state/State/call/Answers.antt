@@ -12,4 +12,5 @@ function-requires-clause-params c =
     ]
 
 pub function-requires-clause-back : goal.function-requires-clause-back
-function-requires-clause-back c = declared_low c.args.types.now c.args.self.now c.requires c.in-Some-pop.declaration _ c.in-Some-pop.ensures
+function-requires-clause-back c =
+    declared_low c.args.types.now c.args.self.now c.requires c.in-Some-pop.declaration _ c.in-Some-pop.ensures

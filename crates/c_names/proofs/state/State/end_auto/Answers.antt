@@ -20,9 +20,9 @@ set_auto-requires-clause-shown c =
     let u = spelling_of c.args.spelling.now in
     let passed = take c.args.at c.args.tape.now in
     let found = some_type c.bare_value.new.types c.in_ok-ty.ty in
-    shown_at (λ x. blamed u c.args.token found (part_ended x)) passed c.args.types.now c.bare_value.new.types c.args.self.now
-    c.or_base.new.self c.requires.shown c.in_ok-ty.ensures.grown
-    (λ t knows. c.in_ok-bare.ensures.blamed t passed ∙ ap (blamed u c.args.token found) (c.in_ok-shape.ensures.left t passed))
+    shown_at (λ x. blamed u c.args.token found (part_ended x)) passed c.args.types.now c.bare_value.new.types
+    c.args.self.now c.or_base.new.self c.requires.shown c.in_ok-ty.ensures.grown (λ t knows.
+    c.in_ok-bare.ensures.blamed t passed ∙ ap (blamed u c.args.token found) (c.in_ok-shape.ensures.left t passed))
 
 -- the state in which an `auto` name has got its type is shown alike by the table that has grown
 pub declare-requires : goal.declare-requires
@@ -30,12 +30,11 @@ declare-requires c =
     let u = spelling_of c.args.spelling.now in
     let passed = take c.args.at c.args.tape.now in
     let found = some_type c.bare_value.new.types c.in_ok-ty.ty in
-    let shown = shown_at (λ x. blamed u c.args.token found (part_ended x)) passed c.args.types.now c.bare_value.new.types
-    c.args.self.now c.or_base.new.self c.requires.shown c.in_ok-ty.ensures.grown
-    (λ t knows. c.in_ok-bare.ensures.blamed t passed ∙ ap (blamed u c.args.token found) (c.in_ok-shape.ensures.left t passed)) in
-    shown_at (λ x. auto_declared (type_or_base found) x) passed c.bare_value.new.types c.set_auto.new.types c.or_base.new.self
-    c.set_auto.new.self shown c.in_ok-set_auto.ensures.grown
-    (λ t knows.
+    let shown = shown_at (λ x. blamed u c.args.token found (part_ended x)) passed c.args.types.now
+    c.bare_value.new.types c.args.self.now c.or_base.new.self c.requires.shown c.in_ok-ty.ensures.grown (λ t knows.
+    c.in_ok-bare.ensures.blamed t passed ∙ ap (blamed u c.args.token found) (c.in_ok-shape.ensures.left t passed)) in
+    shown_at (λ x. auto_declared (type_or_base found) x) passed c.bare_value.new.types c.set_auto.new.types
+    c.or_base.new.self c.set_auto.new.self shown c.in_ok-set_auto.ensures.grown (λ t knows.
     let before = knows_before c.bare_value.new.types c.set_auto.new.types t c.in_ok-set_auto.ensures.grown knows in
     c.in_ok-set_auto.ensures.made t passed knows
     ∙ ap (λ x. auto_declared x (state_of t passed c.or_base.new.self))
@@ -52,17 +51,13 @@ returns-clause-shown c =
     let between = knows_before c.bare_value.new.types c.set_auto.new.types t c.in_ok-set_auto.ensures.grown knows in
     let before = knows_before old c.bare_value.new.types t c.in_ok-ty.ensures.grown between in
     let st = state_of t passed c.args.self.now in
-    let same = c.requires.shown.alike (type_of old) passed (λ n lt. refl) ∙ sym (c.requires.shown.alike t passed before) in
-    done t passed knows
-    ∙ ap (λ (s : State). name_declared u s)
-    (c.in_ok-set_auto.ensures.made t passed knows
-    ∙ ap (λ x. auto_declared x (state_of t passed c.or_base.new.self))
-    (between c.in_ok-bare.bare c.in_ok-bare.ensures.low ∙ c.in_ok-bare.ensures.made)
-    ∙ ap (λ (s : State). auto_declared (type_or_base found) s)
+    let same =
+    c.requires.shown.alike (type_of old) passed (λ n lt. refl) ∙ sym (c.requires.shown.alike t passed before) in
+    done t passed knows ∙ ap (λ (s : State). name_declared u s) (c.in_ok-set_auto.ensures.made t passed knows ∙ ap
+    (λ x. auto_declared x (state_of t passed c.or_base.new.self)) (between c.in_ok-bare.bare c.in_ok-bare.ensures.low
+    ∙ c.in_ok-bare.ensures.made) ∙ ap (λ (s : State). auto_declared (type_or_base found) s)
     (c.in_ok-bare.ensures.blamed t passed ∙ ap (blamed u c.args.token found) (c.in_ok-shape.ensures.left t passed)))
     ∙ auto_is u c.args.token (value (shape_of_part u st)) found st
-    (c.in_ok-ty.ensures.made
-    ∙ ap (option_map bare)
-    (subst (λ rows. some_value_type rows c.value-value.result ≡ value (shape_in rows c.in_ok-shape.shape)) c.table.ensures
-    c.value-value.ensures
+    (c.in_ok-ty.ensures.made ∙ ap (option_map bare) (subst (λ rows. some_value_type rows c.value-value.result
+    ≡ value (shape_in rows c.in_ok-shape.shape)) c.table.ensures c.value-value.ensures
     ∙ ap value (c.in_ok-shape.ensures.shape ∙ ap (λ (s : State). shape_of_part u s) same)))) c.declare.ensures

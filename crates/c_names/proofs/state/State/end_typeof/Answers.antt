@@ -20,7 +20,8 @@ returns-clause-shown c = λ t knows.
     let before = knows_before c.args.types.now c.bare_part.new.types t c.in_ok-ty.ensures.grown knows in
     let st = state_of t passed c.args.self.now in
     let found = some_type c.bare_part.new.types c.in_ok-ty.ty in
-    let same = c.requires.shown.alike (type_of c.args.types.now) passed (λ n lt. refl) ∙ sym (c.requires.shown.alike t passed before) in
+    let same = c.requires.shown.alike (type_of c.args.types.now) passed (λ n lt. refl)
+    ∙ sym (c.requires.shown.alike t passed before) in
     c.set_type.ensures t passed
     ∙ ap (λ x. with_type x (state_of t passed c.or_base.new.self))
     (knows c.in_ok-made.made c.in_ok-made.ensures.low ∙ c.in_ok-made.ensures.made)

@@ -26,7 +26,8 @@ loop-op-preserved c =
     ≡ names_step u (state_of t (take n tape) c.loop-op.self) op) known.counted c.in_ok-step.ensures.shown in
     record {
       counted = ap (λ n. n + 1) known.counted;
-      shown = shown_after u op (take i tape) (take (i + 1) tape) c.loop-op.types c.step.new.types c.loop-op.self c.step.new.self
+      shown = shown_after u op (take i tape)
+          (take (i + 1) tape) c.loop-op.types c.step.new.types c.loop-op.self c.step.new.self
           known.shown grown
           (λ t knows. stepped t u tape i op c.loop-op.self c.step.new.self c.op-item.is within (made t knows));
       implicit = implicit_grows c.loop-op.types c.step.new.types c.args.implicit.now grown known.implicit;

@@ -10,4 +10,5 @@ returns-in_ok-statement-in-Stmt-clause-shown c =
     λ t knows.
     let u = spelling_of c.args.spelling.now in
     let passed = take c.args.at c.args.tape.now in
-    c.in_ok-statement-in-Stmt.ensures t passed ∙ ap (names_step u (state_of t passed c.args.self.now)) (sym c.in-Stmt.is)
+    c.in_ok-statement-in-Stmt.ensures t passed
+    ∙ ap (names_step u (state_of t passed c.args.self.now)) (sym c.in-Stmt.is)

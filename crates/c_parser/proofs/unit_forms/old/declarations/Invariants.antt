@@ -6,8 +6,8 @@ use Rattle.c_parser.proofs.unit_forms.old.declarations.Given as goal
 -- what is read from here on, behind the old declarations so far, is what the whole loop over them gives
 abbrev pub invariant-loop-known : goal.invariant-loop-known
 invariant-loop-known g l =
-    run (old_turn l.depth l.room) (known_declarations l.known.items) l.place.scopes l.place.rest.now
-    ≡ run (old_turn l.depth l.room) [] l.fn.place.scopes l.fn.place.rest.now
+    run (old_turn l.depth l.room) (known_declarations l.known.items) l.cursor.scopes l.cursor.rest.now
+    ≡ run (old_turn l.depth l.room) [] l.fn.cursor.scopes l.fn.cursor.rest.now
 
 abbrev pub decreases-loop-known : goal.decreases-loop-known
-decreases-loop-known g l = length l.place.rest.now
+decreases-loop-known g l = length l.cursor.rest.now

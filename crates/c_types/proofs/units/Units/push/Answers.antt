@@ -15,13 +15,15 @@ returns c = λ units unit are is.
     let same : c.as_slice.result.now ≡ lexed_of units = c.as_slice.ensures.value ∙ are.parts.tokens_are in
     let named : AreNamesOf (lexed_of units) c.name_last.new.names =
     subst (λ (ls : List Lexed). AreNamesOf ls c.name_last.new.names) same
-    (c.in_ok-name_last.ensures (subst (λ (ls : List Lexed). AreNamesOf (all_but_last ls) old.names) (sym same) are.names)) in
+    (c.in_ok-name_last.ensures
+    (subst (λ (ls : List Lexed). AreNamesOf (all_but_last ls) old.names) (sym same) are.names)) in
     let tape : UnitTape = record { spelling = c.in_ok-spelling.spelling; ops = c.args.ops } in
     let parts : AreParts all (old.tokens.items ++ c.args.tokens ∷ []) (old.tapes.items ++ tape ∷ []) =
     parts_more units unit c.args.tokens c.args.ops.items old.tokens.items old.tapes.items _ tape are.parts is
     (c.in_ok-spelling.ensures (lexed_of units) named) refl in
     record {
       parts = subst (λ (ts : List Lexed). AreParts all ts c.push.new.self.items) (sym c.in_ok-push-2.ensures.items)
-          (subst (λ (ts : List UnitTape). AreParts all (old.tokens.items ++ c.args.tokens ∷ []) ts) (sym c.in_ok-push.ensures.items) parts);
+          (subst (λ (ts : List UnitTape). AreParts all (old.tokens.items ++ c.args.tokens ∷ []) ts)
+          (sym c.in_ok-push.ensures.items) parts);
       names = subst (λ (ls : List Lexed). AreNamesOf ls c.name_last.new.names) (sym (before_last units unit)) named;
     }

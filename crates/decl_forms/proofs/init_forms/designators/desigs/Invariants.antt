@@ -10,9 +10,9 @@ use Rattle.decl_forms.proofs.init_forms.designators.desigs.Given as goal
 abbrev pub invariant-loop-known : goal.invariant-loop-known
 invariant-loop-known g l =
     run (repeated_turn begins_desig (desig_with (knot l.depth) l.room)) (desig_trees l.known)
-    l.place.scopes l.place.rest.now
+    l.cursor.scopes l.cursor.rest.now
     ≡ run (repeated_turn begins_desig (desig_with (knot l.depth) l.room)) []
-    l.fn.place.scopes l.fn.place.rest.now
+    l.fn.cursor.scopes l.fn.cursor.rest.now
 
 abbrev pub decreases-loop-known : goal.decreases-loop-known
-decreases-loop-known g l = length l.place.rest.now
+decreases-loop-known g l = length l.cursor.rest.now

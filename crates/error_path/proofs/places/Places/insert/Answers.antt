@@ -2,6 +2,7 @@ use Rattle.std.proofs.Common.{◌≡◌, ◌≢◌, ℕ, false, ◌&&◌, eqb, i
 use Rattle.std.proofs.lemmas.Bool.Decides.{eqb_tells}
 use Rattle.error_path.proofs.places.Places.insert.Goals as goal
 
+-- two pairs that differ in one part compare as different
 apart : (a b u v : ℕ) → (u ≡ a → v ≢ b) → (eqb a u && eqb b v) ≡ false
 apart a b u v other = elim (eqb_tells a u) [
   | inr not ↦ rw not.0 refl

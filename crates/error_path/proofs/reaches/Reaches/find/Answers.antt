@@ -2,6 +2,7 @@ use Rattle.std.proofs.Common.{◌<◌, Some, ap, arith, length, refl, sym, ◌�
 use Rattle.std.proofs.lemmas.Option.{slice_get-get_or}
 use Rattle.error_path.proofs.reaches.Reaches.find.Goals as goal
 
+-- a found search that says it is of the lattice and the element is so at its place
 pub returns-then-is_of : goal.returns-then-is_of
 returns-then-is_of c =
     let found = c.args.self.now.found.items in

@@ -1,8 +1,9 @@
 use Rattle.std.proofs.Common.{◌≡◌, ℕ, List, Some, length, arith, refl, slice_get, subst, sym}
+use Rattle.qual_base.proofs.Lists.{push_last}
 use Rattle.error_path.specs.declared.reaches.Found.{Found}
-use Rattle.error_path.proofs.Making.{push_last}
 use Rattle.error_path.proofs.reaches.Reaches.keep.Goals as goal
 
+-- the place that is answered, behind all that was kept, is that of what is kept now
 pub returns-clause-place : goal.returns-clause-place
 returns-clause-place c =
     let old = c.args.self.now.found.items in

@@ -2,6 +2,7 @@ use Rattle.std.proofs.Common.{sym, ◌∙◌, arith}
 use Rattle.std.proofs.Math.Nat.{le-max_right}
 use Rattle.error_path.proofs.room.Room.new.Goals as goal
 
+-- a new room has marks for each variable and constraint of the graph, and nothing set
 pub returns-clause-room : goal.returns-clause-room
 returns-clause-room c = record {
   vars = λ n link has.

@@ -5,6 +5,7 @@ use Rattle.error_path.specs.declared.search.Origin.{Origin}
 use Rattle.error_path.specs.Reaching.{Grows, IsGood, IsRoundedFrom}
 use Rattle.error_path.proofs.search.Search.follow_all.Given as goal
 
+-- the search is good and grows, and each `Leave` from this number on was followed
 abbrev pub invariant-loop-next : goal.invariant-loop-next
 invariant-loop-next l = record {
   good : (origin : Origin) → IsGood l.graph l.lattice origin l.summaries l.fn.self

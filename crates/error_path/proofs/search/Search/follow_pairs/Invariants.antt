@@ -6,6 +6,7 @@ use Rattle.error_path.specs.declared.search.Origin.{Origin}
 use Rattle.error_path.specs.Reaching.{Grows, IsGood, IsOver, IsRoundedFrom}
 use Rattle.error_path.proofs.search.Search.follow_pairs.Given as goal
 
+-- the search is good, and the groups of each pair of the variable from this number on were followed
 abbrev pub invariant-loop-next : goal.invariant-loop-next
 invariant-loop-next l = record {
   good : (origin : Origin) → IsGood l.graph l.lattice origin l.summaries l.fn.self

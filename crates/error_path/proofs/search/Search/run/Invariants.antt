@@ -4,6 +4,7 @@ use Rattle.error_path.specs.Marks.{free_of}
 use Rattle.error_path.specs.Reaching.{Grows, IsGood, IsOver, IsVisited}
 use Rattle.error_path.proofs.search.Search.run.Given as goal
 
+-- the search is good and grows, and all places before this one were visited
 abbrev pub invariant-loop-place : goal.invariant-loop-place
 invariant-loop-place l = record {
   good : (origin : Origin) → IsGood l.graph l.lattice origin l.summaries l.fn.self

@@ -6,6 +6,7 @@ use Rattle.flow_graph.specs.System.{Stands}
 use Rattle.error_path.proofs.Searching.{grows_then}
 use Rattle.error_path.proofs.search.Search.start_at_each.Goals as goal
 
+-- starting at one more constraint leaves the variables of the constants before it marked
 pub loop-n-preserved : goal.loop-n-preserved
 loop-n-preserved c =
     let so_far = c.loop-n.invariant in
@@ -23,6 +24,7 @@ loop-n-preserved c =
       ];
     }
 
+-- when no constraint is left, the variable of each constant of the element is marked
 pub returns-clause-started : goal.returns-clause-started
 returns-clause-started c = λ m v st.
     let within = slice_get_within c.args.graph.now.constraints m st.constraint st.there in

@@ -8,6 +8,7 @@ use Rattle.error_path.specs.declared.search.Origin.TheVariants.{Element}
 use Rattle.error_path.specs.Reaching.{Grows, IsGood, IsMarked}
 use Rattle.error_path.proofs.search.Search.start_at_each.Given as goal
 
+-- the search is good and grows, and the constants of the element before this constraint are marked
 abbrev pub invariant-loop-n : goal.invariant-loop-n
 invariant-loop-n l = record {
   good : (rows : List Summary) → IsGood l.graph l.lattice (Element l.elem) rows l.fn.self

@@ -3,6 +3,7 @@ use Rattle.error_path.specs.Drafts.{rank, AreDrafts, IsDraft}
 use Rattle.error_path.specs.Made.{place_of, subs_in}
 use Rattle.error_path.proofs.sub_paths.SubPaths.finish.Given as goal
 
+-- what waits and what is written are drafts, and the pair of the latter has no sub-path
 abbrev pub invariant-loop-draft : goal.invariant-loop-draft
 invariant-loop-draft l = record {
   waiting : AreDrafts l.graph l.self.lattice l.summaries (subs_in l.self) l.waiting.items;

@@ -3,6 +3,7 @@ use Rattle.error_path.specs.Made.{place_of, subs_in, Extends, IsMade}
 use Rattle.error_path.proofs.Unmade.{unmade}
 use Rattle.error_path.proofs.sub_paths.SubPaths.make.Given as goal
 
+-- the sub-paths are right and extend the first ones, and what waits are drafts
 abbrev pub invariant-loop-number : goal.invariant-loop-number
 invariant-loop-number l = record {
   made : IsMade l.graph l.self;

@@ -3,6 +3,7 @@ use Rattle.error_path.specs.Drafts.{rank, IsDraft}
 use Rattle.error_path.specs.Made.{subs_in}
 use Rattle.error_path.proofs.sub_paths.SubPaths.write.Given as goal
 
+-- what is written is a draft of the first pair, at a summary that is no later than the first one
 abbrev pub invariant-loop-missing : goal.invariant-loop-missing
 invariant-loop-missing l = record {
   pair : l.draft.pair ≡ l.fn.draft.pair;

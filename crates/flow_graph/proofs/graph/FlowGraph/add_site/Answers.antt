@@ -5,7 +5,8 @@ use Rattle.flow_graph.proofs.graph.FlowGraph.add_site.Goals as goal
 
 pub invariant_of-self : goal.invariant_of-self
 invariant_of-self c =
-    held_on c.self.inside _ refl (grind (arith, common_steps)) (grind (arith, common_steps, c.self.invariant.few_sites)) refl refl c.self.invariant
+    held_on c.self.inside _ refl (grind (arith, common_steps))
+    (grind (arith, common_steps, c.self.invariant.few_sites)) refl refl c.self.invariant
 
 pub invariant_of-self-2 : goal.invariant_of-self-2
 invariant_of-self-2 c =

@@ -4,4 +4,5 @@ use Rattle.flow_graph.proofs.graph.FlowGraph.reserve.Goals as goal
 
 pub invariant_of-self : goal.invariant_of-self
 invariant_of-self c =
-    held_on c.self.inside _ (sym c.reserve.ensures.items) (omega arith) c.self.invariant.few_sites refl refl c.self.invariant
+    held_on c.self.inside _ (sym c.reserve.ensures.items)
+    (omega arith) c.self.invariant.few_sites refl refl c.self.invariant

@@ -9,5 +9,6 @@ abbrev pub invariant-loop-string : goal.invariant-loop-string
 invariant-loop-string l = record {
   low : IsLow l.graph l.lattice_no l.lattice.order l.depth (map_of l.map);
   same : OnFalse l.grew (l.map ≡ l.fn.map);
-  agrees : OnFalse l.grew (AgreesUpTo l.graph l.lattice_no l.lattice.order l.depth (map_of l.fn.map) l.at l.strings l.string-index);
+  agrees : OnFalse l.grew
+      (AgreesUpTo l.graph l.lattice_no l.lattice.order l.depth (map_of l.fn.map) l.at l.strings l.string-index);
 }

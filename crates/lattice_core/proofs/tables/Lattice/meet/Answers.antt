@@ -3,6 +3,7 @@ use Rattle.std.proofs.lemmas.Grind.{common_steps}
 use Rattle.lattice_core.proofs.Made.{meet_there, meet_from_row}
 use Rattle.lattice_core.proofs.tables.Lattice.meet.Goals as goal
 
+-- some element has the common part of two rows read downwards as its row
 pub row_of-requires-clause-there : goal.row_of-requires-clause-there
 row_of-requires-clause-there c =
     let above = c.self.inside.above.items in
@@ -12,8 +13,10 @@ row_of-requires-clause-there c =
     let second : c.args.b < length above = rw (← c.self.view_is) at c.requires.second in
     let one : c.index.result.now ≡ get_or below c.args.a 0 = grind (arith, common_steps, turn.elements) in
     let other : c.index-2.result.now ≡ get_or below c.args.b 0 = grind (arith, common_steps, turn.elements) in
-    rw (c.deref.ensures.value, one, other) (meet_there above below c.self.invariant.lattice turn c.args.a c.args.b first second)
+    rw (c.deref.ensures.value, one, other)
+    (meet_there above below c.self.invariant.lattice turn c.args.a c.args.b first second)
 
+-- the element whose row read downwards is the common part of two is their greatest lower bound
 pub returns : goal.returns
 returns c =
     let above = c.self.inside.above.items in
@@ -24,5 +27,7 @@ returns c =
     let one : c.index.result.now ≡ get_or below c.args.a 0 = grind (arith, common_steps, turn.elements) in
     let other : c.index-2.result.now ≡ get_or below c.args.b 0 = grind (arith, common_steps, turn.elements) in
     let within : c.row_of.result < length below = rw c.deref.ensures.value at c.row_of.ensures.within in
-    let is : get_or below c.row_of.result 0 ≡ bit_and (get_or below c.args.a 0) (get_or below c.args.b 0) = rw (c.deref.ensures.value, one, other) at c.row_of.ensures.is in
-    rw (c.new.ensures, ← c.self.view_is) (meet_from_row above below c.self.invariant.lattice.ordered turn c.args.a c.args.b c.row_of.result within is)
+    let is : get_or below c.row_of.result 0 ≡ bit_and (get_or below c.args.a 0) (get_or below c.args.b 0) =
+    rw (c.deref.ensures.value, one, other) at c.row_of.ensures.is in
+    rw (c.new.ensures, ← c.self.view_is)
+    (meet_from_row above below c.self.invariant.lattice.ordered turn c.args.a c.args.b c.row_of.result within is)

@@ -1,6 +1,7 @@
 use Rattle.std.proofs.Common.{◌≡◌, length, true, false, arith, sym, ◌∙◌}
 use Rattle.lattice_solver.proofs.waiting.Waiting.new.Goals as goal
 
+-- a new stack has a place for each mark, and nobody on it
 pub invariant_of-result : goal.invariant_of-result
 invariant_of-result c =
     let places : length c.in_ok-places.places.items ≡ c.args.vars = c.in_ok-places.ensures in

@@ -4,6 +4,7 @@ use Rattle.match_summary.specs.Chained.{link_of}
 use Rattle.match_summary.specs.Buckets.{buckets_of, hash_of}
 use Rattle.match_summary.proofs.buckets.Buckets.find.Given as goal
 
+-- the next place is of the pair's bucket, and no row from there on has the pair
 abbrev pub invariant-loop-next : goal.invariant-loop-next
 invariant-loop-next l = record {
   there : (n : ℕ) → link_of l.next ≡ n + 1

@@ -6,6 +6,7 @@ pub returns-then-link-eq0 : goal.returns-then-link-eq0
 returns-then-link-eq0 g c =
     sym (not_there c.args.self.now c.args.name (sym c.link-link.ensures ∙ c.if-link-eq0.true))
 
+-- the value of the entry that a name links to is that of its newest entry
 pub returns : goal.returns
 returns g c =
     c.value_at.ensures ∙ there c.self.inside.entries.items c.deref.result.now c.args.name c.link-link.result

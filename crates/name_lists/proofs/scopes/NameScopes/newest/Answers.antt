@@ -3,6 +3,7 @@ use Rattle.name_lists.specs.Newest.{newest_through}
 use Rattle.name_lists.proofs.Cutting.{newest_cut}
 use Rattle.name_lists.proofs.scopes.NameScopes.newest.Goals as goal
 
+-- the newest entry of a name is that of the innermost scope that has one
 pub returns : goal.returns
 returns g c =
     c.get.ensures ∙ newest_cut (reverse c.self.inside.counts.items) c.self.inside.names c.args.name c.self.invariant

@@ -5,7 +5,9 @@ use Rattle.name_tables.specs.PlaceMap.Values.{value_at}
 use Rattle.name_state.specs.NameLinks.Tables.{AreStatics, AreFirsts}
 use Rattle.name_state.proofs.name_links.externals.add_things.Given as goal
 
+-- each place has the link of the things so far, by the `static` names and the first external things
 abbrev pub invariant-loop-it : goal.invariant-loop-it
 invariant-loop-it l =
-    (all : List (ℕ × ℕ)) (others : List (ℕ × Place)) → AreStatics all l.statics.known → AreFirsts all others l.firsts.map
+    (all : List (ℕ × ℕ)) (others : List (ℕ × Place)) → AreStatics all l.statics.known
+    → AreFirsts all others l.firsts.map
     → (p : Place) → value_at l.links p ≡ thing_link all others (reverse (take l.it-index l.things)) p

@@ -7,6 +7,7 @@ use Rattle.name_state.specs.UnitNames.Shown.{names_of}
 use Rattle.name_state.proofs.NameLinks.Things.{first_place}
 use Rattle.name_state.proofs.name_links.linking.links.Goals as goal
 
+-- each place is linked as the rules say: by a thing, or else by a member, or else to itself
 pub returns : goal.returns
 returns c = λ t p.
     let s = names_of t c.args.names.now in

@@ -4,6 +4,7 @@ use Rattle.name_tables.specs.PlaceMap.Values.{or_else}
 use Rattle.name_state.specs.NameLinks.Tables.{member_there, first_own, first_among}
 use Rattle.name_state.proofs.name_links.members.find_members.Given as goal
 
+-- each place has what is found of it, or else what the structs left say, as with all: by its struct and by its key
 abbrev pub invariant-loop-it : goal.invariant-loop-it
 invariant-loop-it l =
     record {

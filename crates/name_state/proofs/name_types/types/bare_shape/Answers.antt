@@ -7,6 +7,7 @@ use Rattle.name_state.proofs.NameTypes.Knowing.{same_function}
 use Rattle.name_state.proofs.NameTypes.Bare.{bare_function, bare_below}
 use Rattle.name_state.proofs.name_types.types.bare_shape.Goals as goal
 
+-- the shape made of a function's bare parameters and bare result is the function's bare type
 pub returns-in_ok-params-in-Fun-clause-made : goal.returns-in_ok-params-in-Fun-clause-made
 returns-in_ok-params-in-Fun-clause-made c =
     let rows = c.args.table.now in
@@ -15,13 +16,13 @@ returns-in_ok-params-in-Fun-clause-made c =
     let low : AreParts (length bares) (shapes.Fun c.in-Fun.params c.in-Fun.back c.in-Fun.ellipsis) =
     subst (λ n. AreParts n (shapes.Fun c.in-Fun.params c.in-Fun.back c.in-Fun.ellipsis)) c.requires.next
     (subst (AreParts c.args.ty) c.in-Fun.is c.shape.ensures.low) in
-    same_function refl
-    (ap (types_at (types_of rows)) (c.in_ok-params-in-Fun.ensures ∙ ap (map (bare_at bares)) c.deref.ensures.value))
-    (ap (type_of rows) c.bare_part-in-Fun.ensures) refl
-    ∙ bare_function rows bares c.in-Fun.params.items c.in-Fun.back c.in-Fun.ellipsis (words_of t) (ellipsis_words_of t) t
-    c.requires.known low.0 low.1
+    same_function refl (ap (types_at (types_of rows)) (c.in_ok-params-in-Fun.ensures
+    ∙ ap (map (bare_at bares)) c.deref.ensures.value)) (ap (type_of rows) c.bare_part-in-Fun.ensures) refl
+    ∙ bare_function rows bares c.in-Fun.params.items c.in-Fun.back c.in-Fun.ellipsis (words_of t)
+    (ellipsis_words_of t) t c.requires.known low.0 low.1
     (c.shape.ensures.shown ∙ ap (λ s. shown (types_of rows) s (words_of t) (ellipsis_words_of t)) c.in-Fun.is)
 
+-- the bare parameters and result of a function are below the size of the table
 pub returns-in_ok-params-in-Fun-clause-parts : goal.returns-in_ok-params-in-Fun-clause-parts
 returns-in_ok-params-in-Fun-clause-parts c =
     let rows = c.args.table.now in

@@ -5,6 +5,7 @@ use Rattle.name_state.proofs.NameTypes.Knowing.{grows_push}
 use Rattle.name_state.proofs.NameTypes.Bare.{bare_more}
 use Rattle.name_state.proofs.name_types.types.find_bare.Goals as goal
 
+-- one type more has a bare type that is known, in the table that the new shape was pushed to
 pub returns-clause-known : goal.returns-clause-known
 returns-clause-known c =
     let longer = c.in_ok-at.ensures.longer in

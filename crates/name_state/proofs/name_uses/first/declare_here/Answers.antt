@@ -5,6 +5,7 @@ use Rattle.name_rules.specs.Declaring.{the_thing, declaring}
 use Rattle.name_state.specs.UnitNames.Shown.{names_of, role_of}
 use Rattle.name_state.proofs.name_uses.first.declare_here.Goals as goal
 
+-- a name is declared in the innermost scope as the rules say: at its first place there, or else at this one
 pub returns : goal.returns
 returns c =
     λ t.

@@ -7,6 +7,7 @@ use Rattle.name_state.specs.UnitNames.Shown.{names_of, use_of}
 use Rattle.name_state.proofs.NameUses.Used.{used_is}
 use Rattle.name_state.proofs.name_uses.uses.use_name.Goals as goal
 
+-- a use of a name is noted by what the name means there, and is at fault where it is a missing one
 pub returns : goal.returns
 returns c =
     λ t.

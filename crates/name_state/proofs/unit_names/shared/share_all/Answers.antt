@@ -2,6 +2,7 @@ use Rattle.std.proofs.Common.{arith, ◌<◌, length, ◌∙◌}
 use Rattle.name_state.proofs.UnitNames.Sharing.{shared_on}
 use Rattle.name_state.proofs.unit_names.shared.share_all.Goals as goal
 
+-- one name more: what it shares comes before what was shared so far
 pub loop-it-preserved : goal.loop-it-preserved
 loop-it-preserved c =
     let names = c.args.names.now in

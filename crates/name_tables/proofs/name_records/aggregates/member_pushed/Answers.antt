@@ -10,15 +10,18 @@ use Rattle.name_tables.proofs.NameRecords.Changed.{changed, unchanged, past}
 use Rattle.name_tables.proofs.NameRecords.Members.{member_more}
 use Rattle.name_tables.proofs.name_records.aggregates.member_pushed.Goals as goal
 
+-- a member of a struct that is not there is pushed to none
 pub returns-in_default-clause-pushed : goal.returns-in_default-clause-pushed
 returns-in_default-clause-pushed c =
     let all = c.args.all.now in
     let change = (with_body (with_member c.args.name c.args.at.now c.args.ty)) in
     let size = all.ok.0 in
-    let beyond : length all.items ≤ c.number.result = let p = past c.number.result _ c.in_default.ensures.variant.1 in omega arith in
+    let beyond : length all.items ≤ c.number.result = let p = past c.number.result _ c.in_default.ensures.variant.1 in
+    omega arith in
     unchanged all.items c.number.result change beyond
     ∙ ap (λ n. changed_at all.items n change) c.number.ensures
 
+-- a member of a struct that is there is pushed to its body
 pub returns-clause-pushed : goal.returns-clause-pushed
 returns-clause-pushed c =
     let all = c.args.all.now in
@@ -27,9 +30,11 @@ returns-clause-pushed c =
     let there = c.in-Some.ensures.variant.0 refl in
     let within : c.number.result < length all.items = omega arith in
     on_ok_weaker c.add.result (λ added.
-    changed all.items c.number.result c.in-Some.it.now c.push_member.new.self change within c.in-Some.ensures.value c.in_ok-push_member.ensures
+    changed all.items c.number.result c.in-Some.it.now c.push_member.new.self change within c.in-Some.ensures.value
+    c.in_ok-push_member.ensures
     ∙ ap (λ n. changed_at all.items n change) c.number.ensures) c.add.ensures
 
+-- a member pushed to a struct is found by its name there, where none was before
 pub returns-clause-members : goal.returns-clause-members
 returns-clause-members c =
     let all = c.args.all.now in

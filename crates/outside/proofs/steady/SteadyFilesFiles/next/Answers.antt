@@ -12,7 +12,9 @@ invariant_of-self c =
     let rest = rest_at c.self.inside.files.items c.moved_on-self-inside.result in
     let none : c.next.new.self.failed ≡ 0 = grind arith in (
       subst (AreRead files rest) (sym c.next.ensures.readings)
-          (moves_read files Failed _ _ (rest_at c.self.inside.files.items c.self.inside.at) rest c.self.inside.log.readings (grind (arith, common_steps)) (grind (arith, common_steps)) (grind (arith, common_steps)) c.self.invariant.0),
+          (moves_read files Failed _ _
+          (rest_at c.self.inside.files.items c.self.inside.at) rest c.self.inside.log.readings
+          (grind (arith, common_steps)) (grind (arith, common_steps)) (grind (arith, common_steps)) c.self.invariant.0),
       none,
     )
 

@@ -16,7 +16,8 @@ returns c = record {
     law : Flows
     law = record {
       flown = λ a b. c.flows_stay.ensures.flow nobodys Nobody a b (all_nobodys (nodes a)) (all_nobodys (nodes b));
-      made_equal = λ a b. c.flows_stay.ensures.equate nobodys Nobody a b (all_nobodys (nodes a)) (all_nobodys (nodes b));
+      made_equal =
+          λ a b. c.flows_stay.ensures.equate nobodys Nobody a b (all_nobodys (nodes a)) (all_nobodys (nodes b));
       smashed = λ a e. c.flows_stay.ensures.smash nobodys Nobody a e (all_nobodys (nodes a)) (inl refl);
       unsmashed = λ e b. c.flows_stay.ensures.unsmash nobodys Nobody e b (inl refl) (all_nobodys (nodes b));
       crossed = λ site a b. c.crossings_lead.ensures nobodys Nobody Nobody site a b (all_of_nobody (nodes a))

@@ -7,4 +7,5 @@ use Rattle.path_checker.proofs.report_checks.judging.judge_report.Goals as goal
 pub returns-clause-only : goal.returns-clause-only
 returns-clause-only c =
     let a = c.args in
-    IfOk-weaker c.judge.result _ _ (λ checked comes other is. comes_to_one a.graph.now (orders_of a.lattices.now) a.bytes.now checked other comes is) c.judge.ensures.is
+    IfOk-weaker c.judge.result _ _ (λ checked comes other is. comes_to_one a.graph.now
+    (orders_of a.lattices.now) a.bytes.now checked other comes is) c.judge.ensures.is

@@ -10,5 +10,6 @@ pub returns : goal.returns
 returns c = λ w shows all p.
     let k = c.args.known.now in
     let it = c.args.self.now in
-    c.val_by.ensures ∙ ap (λ s. pick_by it.count it.others s (val k it.first) (val k it.first_other)) (c.own.ensures w shows) ∙
+    c.val_by.ensures
+    ∙ ap (λ s. pick_by it.count it.others s (val k it.first) (val k it.first_other)) (c.own.ensures w shows) ∙
     picked_is k.vars.now all it (vals.own w c.args.token) p

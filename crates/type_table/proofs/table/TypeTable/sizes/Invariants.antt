@@ -5,5 +5,7 @@ use Rattle.type_table.proofs.table.TypeTable.sizes.Given as goal
 
 -- what is left is added to the sizes of those before it
 abbrev pub invariant-loop-ty : goal.invariant-loop-ty
-invariant-loop-ty l = (capped (l.total + sizes (types_at (types_of l.self) (drop l.ty-index l.types))) ≡ capped (sizes (types_at (types_of l.self) l.types)))
+invariant-loop-ty l =
+    (capped (l.total + sizes (types_at (types_of l.self) (drop l.ty-index l.types)))
+    ≡ capped (sizes (types_at (types_of l.self) l.types)))
     × (capped l.total ≡ l.total)

@@ -8,5 +8,5 @@ returns-clause-implicit c =
     c.in_ok-void.void c.in_ok-text.text c.in_ok-function.function c.new.result.items c.new-2.result.items
     c.new-3.result.items c.new-params.result.items c.in_ok-void.ensures.grown c.in_ok-text.ensures.grown
     c.in_ok-function.ensures.grown c.new.ensures.items c.new-2.ensures.items c.new-3.ensures.items
-    c.new-params.ensures.items c.base-base.ensures.low c.base-base.ensures.is c.in_ok-void.ensures.made c.in_ok-text.ensures.made
-    c.in_ok-function.ensures.made
+    c.new-params.ensures.items c.base-base.ensures.low c.base-base.ensures.is c.in_ok-void.ensures.made
+    c.in_ok-text.ensures.made c.in_ok-function.ensures.made

@@ -22,7 +22,8 @@ loop-declared-preserved c =
     let found = c.loop-declared.found in
     let are = subst (λ (all : List Bodied). AreFirsts all c.in_ok-bodies.bodies)
     (c.bodies.ensures t ∙ ap (λ (n : Names). (names_of t n).bodies) c.names.ensures) c.in_ok-bodies.ensures in
-    let tested : c.is_first_function.result ≡ is_first_function bodies (declared_of t it) = c.is_first_function.ensures s.bodies are in
+    let tested : c.is_first_function.result ≡ is_first_function bodies (declared_of t it) =
+    c.is_first_function.ensures s.bodies are in
     let next = λ (b : Bool).
     functions_next (link_of s) bodies (declared_of t) c.declared-all.result.now c.loop-declared.declared-index it found
     c.if-is_first_function.found b c.loop-declared-test.true c.declared-item.is in

@@ -11,5 +11,6 @@ abbrev pub invariant-loop-declared : goal.invariant-loop-declared
 invariant-loop-declared l =
     let s = names_in l.types l.names in
     let bodies = map first_place s.bodies in
-    l.found ++ map (link_of s) (functions_among bodies (map (declared_of (type_of l.types)) (drop l.declared-index l.all)))
+    l.found ++ map (link_of s)
+    (functions_among bodies (map (declared_of (type_of l.types)) (drop l.declared-index l.all)))
     ≡ map (link_of s) (functions_among bodies (map (declared_of (type_of l.types)) l.all))

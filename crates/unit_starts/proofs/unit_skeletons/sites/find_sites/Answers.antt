@@ -24,7 +24,8 @@ loop-start-preserved c =
     let rest = map (start_in types) (drop (i + 1) starts) in
     record {
       sites = ap (λ (l : List Site). l ++ sites_among functions rest) more.sites
-          ∙ append_assoc it.graph.sites (site_of functions (start_in types start) start.calls) (sites_among functions rest)
+          ∙ append_assoc it.graph.sites (site_of functions (start_in types start) start.calls)
+          (sites_among functions rest)
           ∙ ap (λ (all : List rules.Start). it.graph.sites ++ sites_among functions all)
           (sym (one_left (start_in types) starts i start c.loop-start-test.true c.start-item.is))
           ∙ c.loop-start.invariant.sites;

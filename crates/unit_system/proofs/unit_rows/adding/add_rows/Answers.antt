@@ -37,7 +37,8 @@ returns c =
     let past : length tape ≤ c.loop-op.op-index = omega arith in
     record {
       ok = λ w shows. (c.loop-op.invariant w shows).rows
-          ∙ ap (λ (ops : List Op). with c.args.graph.now (rows_found w nothing ops)) (all_taken tape c.loop-op.op-index past);
+          ∙ ap (λ (ops : List Op). with c.args.graph.now (rows_found w nothing ops))
+          (all_taken tape c.loop-op.op-index past);
       err = tt;
     }
 

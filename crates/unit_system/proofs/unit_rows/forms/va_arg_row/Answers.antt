@@ -13,10 +13,14 @@ returns c =
     let k = c.args.known.now in
     let t = tables_of k in
     let st = state_of k c.args.stacks.now in
-    let same : Same k (λ w. rows.taken_fresh w c.args.token (option_map (type k) c.type_at-ty.result) (skel k c.value_at-list.result) c.span-span.result)
-    (λ w. rows.taken_fresh w c.args.token (states.type_at 0 st) (states.value_at 1 st) (span w c.args.token c.args.last)) =
-    λ w shows. λ i. rows.taken_fresh w c.args.token (c.type_at-ty.ensures t i) (c.value_at-list.ensures i) (c.span-span.ensures w shows i) in
+    let same : Same k (λ w. rows.taken_fresh w c.args.token (option_map (type k) c.type_at-ty.result)
+    (skel k c.value_at-list.result) c.span-span.result)
+    (λ w. rows.taken_fresh w c.args.token (states.type_at 0 st) (states.value_at 1 st)
+    (span w c.args.token c.args.last)) =
+    λ w shows. λ i. rows.taken_fresh w c.args.token (c.type_at-ty.ensures t i) (c.value_at-list.ensures i)
+    (c.span-span.ensures w shows i) in
     record {
       ok = row_added c.taken_fresh.result k c.args.graph.now c.taken_fresh.new.graph _ _ same c.taken_fresh.ensures.ok;
-      err = row_halted c.taken_fresh.result k c.args.graph.now c.taken_fresh.new.graph _ _ same c.taken_fresh.ensures.err;
+      err =
+          row_halted c.taken_fresh.result k c.args.graph.now c.taken_fresh.new.graph _ _ same c.taken_fresh.ensures.err;
     }

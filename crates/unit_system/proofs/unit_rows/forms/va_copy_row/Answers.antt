@@ -15,10 +15,16 @@ returns c =
     let k = c.args.known.now in
     let t = tables_of k in
     let st = state_of k c.args.stacks.now in
-    let same : Same k (λ w. (λ (z : Bool) (a b : Skel) (s : Span). rows.flowing z a b (all_lattices w) s) c.is_zero_at-is_zero.result (skel k c.value_at-from.result) (skel k c.value_at-to.result) c.span-span.result)
-    (λ w. (λ (z : Bool) (a b : Skel) (s : Span). rows.flowing z a b (all_lattices w) s) (states.is_zero_at 0 st) (states.value_at 0 st) (states.value_at 1 st) (span w c.args.token c.args.last)) =
-    λ w shows. λ i. (λ (z : Bool) (a b : Skel) (s : Span). rows.flowing z a b (all_lattices w) s) (c.is_zero_at-is_zero.ensures t i) (c.value_at-from.ensures i) (c.value_at-to.ensures i) (c.span-span.ensures w shows i) in
+    let same : Same k (λ w. (λ (z : Bool) (a b : Skel) (s : Span). rows.flowing z a b (all_lattices w) s)
+    c.is_zero_at-is_zero.result (skel k c.value_at-from.result) (skel k c.value_at-to.result) c.span-span.result)
+    (λ w. (λ (z : Bool) (a b : Skel) (s : Span). rows.flowing z a b (all_lattices w) s) (states.is_zero_at 0 st)
+    (states.value_at 0 st) (states.value_at 1 st) (span w c.args.token c.args.last)) =
+    λ w shows. λ i.
+    (λ (z : Bool) (a b : Skel) (s : Span). rows.flowing z a b (all_lattices w) s) (c.is_zero_at-is_zero.ensures t i)
+    (c.value_at-from.ensures i) (c.value_at-to.ensures i) (c.span-span.ensures w shows i) in
     record {
-      ok = row_added c.flowing_in_all.result k c.args.graph.now c.flowing_in_all.new.graph _ _ same c.flowing_in_all.ensures.ok;
-      err = row_halted c.flowing_in_all.result k c.args.graph.now c.flowing_in_all.new.graph _ _ same c.flowing_in_all.ensures.err;
+      ok = row_added c.flowing_in_all.result k c.args.graph.now c.flowing_in_all.new.graph _ _ same
+          c.flowing_in_all.ensures.ok;
+      err = row_halted c.flowing_in_all.result k c.args.graph.now c.flowing_in_all.new.graph _ _ same
+          c.flowing_in_all.ensures.err;
     }

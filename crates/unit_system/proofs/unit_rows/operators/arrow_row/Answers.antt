@@ -16,6 +16,8 @@ returns c =
     (λ w. rows.dereferenced w (states.value_at 0 st) c.args.aims (span w c.args.first c.args.last)) =
     λ w shows. λ i. rows.dereferenced w (c.value_at-at.ensures i) c.args.aims (c.span-span.ensures w shows i) in
     record {
-      ok = row_added c.dereferenced.result k c.args.graph.now c.dereferenced.new.graph _ _ same c.dereferenced.ensures.ok;
-      err = row_halted c.dereferenced.result k c.args.graph.now c.dereferenced.new.graph _ _ same c.dereferenced.ensures.err;
+      ok = row_added c.dereferenced.result k c.args.graph.now c.dereferenced.new.graph _ _ same
+          c.dereferenced.ensures.ok;
+      err = row_halted c.dereferenced.result k c.args.graph.now c.dereferenced.new.graph _ _ same
+          c.dereferenced.ensures.err;
     }

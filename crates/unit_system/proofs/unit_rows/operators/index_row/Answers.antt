@@ -19,7 +19,8 @@ returns-then-is_vector_index c =
       ok = none_added k c.args.graph.now _ (λ w shows.
           let is = c.is_vector_index.ensures w shows ∙
           (λ i. vals.is_vector_index w.spelling.wide (c.value_at-one.ensures i) (c.value_at-other.ensures i)) in
-          ap (λ v. if v then [] else rows.dereferenced w (if vals.is_ref a then a else b) c.args.aims (span w c.args.first c.args.last))
+          ap (λ v. if v then []
+          else rows.dereferenced w (if vals.is_ref a then a else b) c.args.aims (span w c.args.first c.args.last))
           (sym is ∙ c.if-is_vector_index.true));
       err = tt;
     }
@@ -39,9 +40,12 @@ returns c =
     let is = c.is_vector_index.ensures w shows ∙
     (λ i. vals.is_vector_index w.spelling.wide (c.value_at-one.ensures i) (c.value_at-other.ensures i)) in
     (λ i. rows.dereferenced w (at_is i) c.args.aims (c.span-span.ensures w shows i)) ∙
-    ap (λ v. if v then [] else rows.dereferenced w (if vals.is_ref a then a else b) c.args.aims (span w c.args.first c.args.last))
+    ap (λ v. if v then []
+    else rows.dereferenced w (if vals.is_ref a then a else b) c.args.aims (span w c.args.first c.args.last))
     (sym c.if-is_vector_index.false ∙ is) in
     record {
-      ok = row_added c.dereferenced.result k c.args.graph.now c.dereferenced.new.graph _ _ same c.dereferenced.ensures.ok;
-      err = row_halted c.dereferenced.result k c.args.graph.now c.dereferenced.new.graph _ _ same c.dereferenced.ensures.err;
+      ok = row_added c.dereferenced.result k c.args.graph.now c.dereferenced.new.graph _ _ same
+          c.dereferenced.ensures.ok;
+      err = row_halted c.dereferenced.result k c.args.graph.now c.dereferenced.new.graph _ _ same
+          c.dereferenced.ensures.err;
     }

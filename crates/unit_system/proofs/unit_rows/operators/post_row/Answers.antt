@@ -16,8 +16,11 @@ returns c =
     let st = state_of k c.args.stacks.now in
     let same : Same k (λ w. write_bounds w c.var.result c.span-span.result)
     (λ w. write_bounds w (root (states.val_at 0 st).skel) (span w c.args.first c.args.token)) =
-    λ w shows. λ i. write_bounds w ((c.var.ensures.root ∙ ap (λ (v : vals.Val). root v.skel) (c.val_at-operand.ensures k.types.now)) i) (c.span-span.ensures w shows i) in
+    λ w shows. λ i. write_bounds w ((c.var.ensures.root
+    ∙ ap (λ (v : vals.Val). root v.skel) (c.val_at-operand.ensures k.types.now)) i) (c.span-span.ensures w shows i) in
     record {
-      ok = row_added c.write_bounds.result k c.args.graph.now c.write_bounds.new.graph _ _ same c.write_bounds.ensures.ok;
-      err = row_halted c.write_bounds.result k c.args.graph.now c.write_bounds.new.graph _ _ same c.write_bounds.ensures.err;
+      ok = row_added c.write_bounds.result k c.args.graph.now c.write_bounds.new.graph _ _ same
+          c.write_bounds.ensures.ok;
+      err = row_halted c.write_bounds.result k c.args.graph.now c.write_bounds.new.graph _ _ same
+          c.write_bounds.ensures.err;
     }

@@ -17,9 +17,13 @@ returns c =
     let st = state_of k c.args.stacks.now in
     record {
       ok = rows_added c.row_where.result k c.args.graph.now c.candidate_row.new.graph c.row_where.new.graph
-          (λ w. rows.flowing (states.is_zero_at 1 st) (states.value_at 1 st) (vals.own w c.args.token) (all_lattices w) (span w c.args.token c.args.token)) (λ w. picking_row w c.args.token (steps.candidate_at 0 st ∷ [])) c.in_ok-candidate_row.ensures.ok c.row_where.ensures.ok;
+          (λ w. rows.flowing (states.is_zero_at 1 st) (states.value_at 1 st) (vals.own w c.args.token) (all_lattices w)
+          (span w c.args.token c.args.token)) (λ w. picking_row w c.args.token (steps.candidate_at 0 st ∷ []))
+          c.in_ok-candidate_row.ensures.ok c.row_where.ensures.ok;
       err = rows_halted c.row_where.result k c.args.graph.now c.candidate_row.new.graph c.row_where.new.graph
-          (λ w. rows.flowing (states.is_zero_at 1 st) (states.value_at 1 st) (vals.own w c.args.token) (all_lattices w) (span w c.args.token c.args.token)) (λ w. picking_row w c.args.token (steps.candidate_at 0 st ∷ [])) c.in_ok-candidate_row.ensures.ok c.row_where.ensures.err;
+          (λ w. rows.flowing (states.is_zero_at 1 st) (states.value_at 1 st) (vals.own w c.args.token) (all_lattices w)
+          (span w c.args.token c.args.token)) (λ w. picking_row w c.args.token (steps.candidate_at 0 st ∷ []))
+          c.in_ok-candidate_row.ensures.ok c.row_where.ensures.err;
     }
 
 -- where the flow of the first candidate halts, the choice halts in it
@@ -29,4 +33,7 @@ returns-in_err-candidate_row-clause-err c =
     let st = state_of k c.args.stacks.now in
     let failed = err_from_is_err_and c.from_residual.result c.from_residual.ensures.1 in
     rw (failed.1, failed.2)
-    (first_halted k c.args.graph.now c.candidate_row.new.graph c.in_err-candidate_row.field-0.0 (λ w. rows.flowing (states.is_zero_at 1 st) (states.value_at 1 st) (vals.own w c.args.token) (all_lattices w) (span w c.args.token c.args.token)) (λ w. picking_row w c.args.token (steps.candidate_at 0 st ∷ [])) c.in_err-candidate_row.ensures.err)
+    (first_halted k c.args.graph.now c.candidate_row.new.graph c.in_err-candidate_row.field-0.0
+    (λ w. rows.flowing (states.is_zero_at 1 st) (states.value_at 1 st) (vals.own w c.args.token) (all_lattices w)
+    (span w c.args.token c.args.token))
+    (λ w. picking_row w c.args.token (steps.candidate_at 0 st ∷ [])) c.in_err-candidate_row.ensures.err)

@@ -14,11 +14,15 @@ pub returns-then-is_fresh : goal.returns-then-is_fresh
 returns-then-is_fresh c =
     let k = c.args.known.now in
     let st = state_of k c.args.stacks.now in
-    let same : Same k (λ w. rows.formed_here w c.args.token ++ picking_row w c.args.token (steps.chosen st)) (λ w. rows.picked w (vals.left_of (steps.chosen st)) (vals.own w c.args.token) (span w c.args.token c.args.token)) = λ w shows. fresh_row w c.args.token (steps.chosen st) c.is_fresh.result c.if-is_fresh.true
+    let same : Same k (λ w. rows.formed_here w c.args.token ++ picking_row w c.args.token (steps.chosen st))
+    (λ w. rows.picked w (vals.left_of (steps.chosen st)) (vals.own w c.args.token) (span w c.args.token c.args.token)) =
+    λ w shows. fresh_row w c.args.token (steps.chosen st) c.is_fresh.result c.if-is_fresh.true
     (c.is_fresh.ensures k.vars.now (steps.chosen st) (c.chosen-picked.ensures)) in
     record {
-      ok = row_added c.fresh_choice.result k c.args.graph.now c.fresh_choice.new.graph _ _ same c.fresh_choice.ensures.ok;
-      err = row_halted c.fresh_choice.result k c.args.graph.now c.fresh_choice.new.graph _ _ same c.fresh_choice.ensures.err;
+      ok = row_added c.fresh_choice.result k c.args.graph.now c.fresh_choice.new.graph _ _ same
+          c.fresh_choice.ensures.ok;
+      err = row_halted c.fresh_choice.result k c.args.graph.now c.fresh_choice.new.graph _ _ same
+          c.fresh_choice.ensures.err;
     }
 
 -- a choice without a value of its own adds nothing
@@ -27,7 +31,8 @@ returns-else-is_fresh c =
     let k = c.args.known.now in
     let st = state_of k c.args.stacks.now in
     record {
-      ok = none_added k c.args.graph.now _ (λ w shows. no_row w c.args.token (steps.chosen st) c.is_fresh.result c.if-is_fresh.false
+      ok = none_added k c.args.graph.now _ (λ w shows.
+          no_row w c.args.token (steps.chosen st) c.is_fresh.result c.if-is_fresh.false
           (c.is_fresh.ensures k.vars.now (steps.chosen st) (c.chosen-picked.ensures)));
       err = tt;
     }

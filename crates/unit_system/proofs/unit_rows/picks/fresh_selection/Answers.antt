@@ -13,9 +13,11 @@ returns c =
     let st = state_of k c.args.stacks.now in
     record {
       ok = rows_added c.selection_rows.result k c.args.graph.now c.form_here.new.graph c.selection_rows.new.graph
-          (λ w. rows.formed_here w c.args.token) (λ w. picking_row w c.args.token (steps.selected w c.args.token 0 c.args.count st)) c.in_ok-form_here.ensures.ok c.selection_rows.ensures.ok;
+          (λ w. rows.formed_here w c.args.token) (λ w. picking_row w c.args.token
+          (steps.selected w c.args.token 0 c.args.count st)) c.in_ok-form_here.ensures.ok c.selection_rows.ensures.ok;
       err = rows_halted c.selection_rows.result k c.args.graph.now c.form_here.new.graph c.selection_rows.new.graph
-          (λ w. rows.formed_here w c.args.token) (λ w. picking_row w c.args.token (steps.selected w c.args.token 0 c.args.count st)) c.in_ok-form_here.ensures.ok c.selection_rows.ensures.err;
+          (λ w. rows.formed_here w c.args.token) (λ w. picking_row w c.args.token
+          (steps.selected w c.args.token 0 c.args.count st)) c.in_ok-form_here.ensures.ok c.selection_rows.ensures.err;
     }
 
 -- where what passes inside the value of a selection halts, its whole row halts there
@@ -25,4 +27,6 @@ returns-in_err-form_here-clause-err c =
     let st = state_of k c.args.stacks.now in
     let failed = err_from_is_err_and c.from_residual.result c.from_residual.ensures.1 in
     rw (failed.1, failed.2)
-    (first_halted k c.args.graph.now c.form_here.new.graph c.in_err-form_here.field-0.0 (λ w. rows.formed_here w c.args.token) (λ w. picking_row w c.args.token (steps.selected w c.args.token 0 c.args.count st)) c.in_err-form_here.ensures.err)
+    (first_halted k c.args.graph.now c.form_here.new.graph c.in_err-form_here.field-0.0
+    (λ w. rows.formed_here w c.args.token)
+    (λ w. picking_row w c.args.token (steps.selected w c.args.token 0 c.args.count st)) c.in_err-form_here.ensures.err)

@@ -10,7 +10,8 @@ returns-then-is_quiet c =
     let k = c.args.known.now in
     let st = state_of k c.args.stacks.now in
     record {
-      ok = none_added k c.args.graph.now _ (λ w shows. ap (λ (b : Bool). if b then [] else op_rows.loud_row w st c.args.op.now)
+      ok = none_added k c.args.graph.now _ (λ w shows.
+          ap (λ (b : Bool). if b then [] else op_rows.loud_row w st c.args.op.now)
           (sym (c.is_quiet.ensures (tables_of k)) ∙ c.if-is_quiet.true));
       err = tt;
     }

@@ -10,8 +10,10 @@ returns-in-DeclName c =
     let k = c.args.known.now in
     let st = state_of k c.args.stacks.now in
     record {
-      ok = row_added c.declared_row.result k c.args.graph.now c.declared_row.new.graph _ _ (λ w shows. ap (op_rows.declr_row w st) (sym c.in-DeclName.is)) c.declared_row.ensures.ok;
-      err = row_halted c.declared_row.result k c.args.graph.now c.declared_row.new.graph _ _ (λ w shows. ap (op_rows.declr_row w st) (sym c.in-DeclName.is)) c.declared_row.ensures.err;
+      ok = row_added c.declared_row.result k c.args.graph.now c.declared_row.new.graph _ _
+          (λ w shows. ap (op_rows.declr_row w st) (sym c.in-DeclName.is)) c.declared_row.ensures.ok;
+      err = row_halted c.declared_row.result k c.args.graph.now c.declared_row.new.graph _ _
+          (λ w shows. ap (op_rows.declr_row w st) (sym c.in-DeclName.is)) c.declared_row.ensures.err;
     }
 
 -- the begin of a list of parameters gives no constraint

@@ -10,8 +10,10 @@ returns-in-Name c =
     let k = c.args.known.now in
     let st = state_of k c.args.stacks.now in
     record {
-      ok = row_added c.name_row.result k c.args.graph.now c.name_row.new.graph _ _ (λ w shows. ap (op_rows.expr_row w st) (sym c.in-Name.is)) c.name_row.ensures.ok;
-      err = row_halted c.name_row.result k c.args.graph.now c.name_row.new.graph _ _ (λ w shows. ap (op_rows.expr_row w st) (sym c.in-Name.is)) c.name_row.ensures.err;
+      ok = row_added c.name_row.result k c.args.graph.now c.name_row.new.graph _ _
+          (λ w shows. ap (op_rows.expr_row w st) (sym c.in-Name.is)) c.name_row.ensures.ok;
+      err = row_halted c.name_row.result k c.args.graph.now c.name_row.new.graph _ _
+          (λ w shows. ap (op_rows.expr_row w st) (sym c.in-Name.is)) c.name_row.ensures.err;
     }
 
 -- a number gives no constraint
@@ -40,8 +42,10 @@ returns-in-Text c =
     let k = c.args.known.now in
     let st = state_of k c.args.stacks.now in
     record {
-      ok = row_added c.form_here.result k c.args.graph.now c.form_here.new.graph _ _ (λ w shows. ap (op_rows.expr_row w st) (sym c.in-Text.is)) c.form_here.ensures.ok;
-      err = row_halted c.form_here.result k c.args.graph.now c.form_here.new.graph _ _ (λ w shows. ap (op_rows.expr_row w st) (sym c.in-Text.is)) c.form_here.ensures.err;
+      ok = row_added c.form_here.result k c.args.graph.now c.form_here.new.graph _ _
+          (λ w shows. ap (op_rows.expr_row w st) (sym c.in-Text.is)) c.form_here.ensures.ok;
+      err = row_halted c.form_here.result k c.args.graph.now c.form_here.new.graph _ _
+          (λ w shows. ap (op_rows.expr_row w st) (sym c.in-Text.is)) c.form_here.ensures.err;
     }
 
 -- a parenthesis gives no constraint
@@ -80,8 +84,10 @@ returns-in-Assign c =
     let k = c.args.known.now in
     let st = state_of k c.args.stacks.now in
     record {
-      ok = row_added c.assign_row.result k c.args.graph.now c.assign_row.new.graph _ _ (λ w shows. ap (op_rows.expr_row w st) (sym c.in-Assign.is)) c.assign_row.ensures.ok;
-      err = row_halted c.assign_row.result k c.args.graph.now c.assign_row.new.graph _ _ (λ w shows. ap (op_rows.expr_row w st) (sym c.in-Assign.is)) c.assign_row.ensures.err;
+      ok = row_added c.assign_row.result k c.args.graph.now c.assign_row.new.graph _ _
+          (λ w shows. ap (op_rows.expr_row w st) (sym c.in-Assign.is)) c.assign_row.ensures.ok;
+      err = row_halted c.assign_row.result k c.args.graph.now c.assign_row.new.graph _ _
+          (λ w shows. ap (op_rows.expr_row w st) (sym c.in-Assign.is)) c.assign_row.ensures.err;
     }
 
 -- the op of `?:` adds the row of its two values, or halts in it
@@ -90,8 +96,10 @@ returns-in-Cond c =
     let k = c.args.known.now in
     let st = state_of k c.args.stacks.now in
     record {
-      ok = row_added c.cond_row.result k c.args.graph.now c.cond_row.new.graph _ _ (λ w shows. ap (op_rows.expr_row w st) (sym c.in-Cond.is)) c.cond_row.ensures.ok;
-      err = row_halted c.cond_row.result k c.args.graph.now c.cond_row.new.graph _ _ (λ w shows. ap (op_rows.expr_row w st) (sym c.in-Cond.is)) c.cond_row.ensures.err;
+      ok = row_added c.cond_row.result k c.args.graph.now c.cond_row.new.graph _ _
+          (λ w shows. ap (op_rows.expr_row w st) (sym c.in-Cond.is)) c.cond_row.ensures.ok;
+      err = row_halted c.cond_row.result k c.args.graph.now c.cond_row.new.graph _ _
+          (λ w shows. ap (op_rows.expr_row w st) (sym c.in-Cond.is)) c.cond_row.ensures.err;
     }
 
 -- the op of a binary operator adds the row of its sign, or halts in it
@@ -100,8 +108,10 @@ returns-in-Binary c =
     let k = c.args.known.now in
     let st = state_of k c.args.stacks.now in
     record {
-      ok = row_added c.binary_row.result k c.args.graph.now c.binary_row.new.graph _ _ (λ w shows. ap (op_rows.expr_row w st) (sym c.in-Binary.is)) c.binary_row.ensures.ok;
-      err = row_halted c.binary_row.result k c.args.graph.now c.binary_row.new.graph _ _ (λ w shows. ap (op_rows.expr_row w st) (sym c.in-Binary.is)) c.binary_row.ensures.err;
+      ok = row_added c.binary_row.result k c.args.graph.now c.binary_row.new.graph _ _
+          (λ w shows. ap (op_rows.expr_row w st) (sym c.in-Binary.is)) c.binary_row.ensures.ok;
+      err = row_halted c.binary_row.result k c.args.graph.now c.binary_row.new.graph _ _
+          (λ w shows. ap (op_rows.expr_row w st) (sym c.in-Binary.is)) c.binary_row.ensures.err;
     }
 
 -- the op of an operator before its operand adds the row of its sign, or halts in it
@@ -110,8 +120,10 @@ returns-in-Prefix c =
     let k = c.args.known.now in
     let st = state_of k c.args.stacks.now in
     record {
-      ok = row_added c.prefix_row.result k c.args.graph.now c.prefix_row.new.graph _ _ (λ w shows. ap (op_rows.expr_row w st) (sym c.in-Prefix.is)) c.prefix_row.ensures.ok;
-      err = row_halted c.prefix_row.result k c.args.graph.now c.prefix_row.new.graph _ _ (λ w shows. ap (op_rows.expr_row w st) (sym c.in-Prefix.is)) c.prefix_row.ensures.err;
+      ok = row_added c.prefix_row.result k c.args.graph.now c.prefix_row.new.graph _ _
+          (λ w shows. ap (op_rows.expr_row w st) (sym c.in-Prefix.is)) c.prefix_row.ensures.ok;
+      err = row_halted c.prefix_row.result k c.args.graph.now c.prefix_row.new.graph _ _
+          (λ w shows. ap (op_rows.expr_row w st) (sym c.in-Prefix.is)) c.prefix_row.ensures.err;
     }
 
 -- the op of `++` or `--` behind its operand adds the bounds of a write, or halts in them
@@ -120,8 +132,10 @@ returns-in-Post c =
     let k = c.args.known.now in
     let st = state_of k c.args.stacks.now in
     record {
-      ok = row_added c.post_row.result k c.args.graph.now c.post_row.new.graph _ _ (λ w shows. ap (op_rows.expr_row w st) (sym c.in-Post.is)) c.post_row.ensures.ok;
-      err = row_halted c.post_row.result k c.args.graph.now c.post_row.new.graph _ _ (λ w shows. ap (op_rows.expr_row w st) (sym c.in-Post.is)) c.post_row.ensures.err;
+      ok = row_added c.post_row.result k c.args.graph.now c.post_row.new.graph _ _
+          (λ w shows. ap (op_rows.expr_row w st) (sym c.in-Post.is)) c.post_row.ensures.ok;
+      err = row_halted c.post_row.result k c.args.graph.now c.post_row.new.graph _ _
+          (λ w shows. ap (op_rows.expr_row w st) (sym c.in-Post.is)) c.post_row.ensures.err;
     }
 
 -- the op of `[ ]` adds the row of its pointer, or halts in it
@@ -130,8 +144,10 @@ returns-in-Index c =
     let k = c.args.known.now in
     let st = state_of k c.args.stacks.now in
     record {
-      ok = row_added c.index_row.result k c.args.graph.now c.index_row.new.graph _ _ (λ w shows. ap (op_rows.expr_row w st) (sym c.in-Index.is)) c.index_row.ensures.ok;
-      err = row_halted c.index_row.result k c.args.graph.now c.index_row.new.graph _ _ (λ w shows. ap (op_rows.expr_row w st) (sym c.in-Index.is)) c.index_row.ensures.err;
+      ok = row_added c.index_row.result k c.args.graph.now c.index_row.new.graph _ _
+          (λ w shows. ap (op_rows.expr_row w st) (sym c.in-Index.is)) c.index_row.ensures.ok;
+      err = row_halted c.index_row.result k c.args.graph.now c.index_row.new.graph _ _
+          (λ w shows. ap (op_rows.expr_row w st) (sym c.in-Index.is)) c.index_row.ensures.err;
     }
 
 -- the op of an argument adds the row of its parameter, or halts in it
@@ -140,8 +156,10 @@ returns-in-Arg c =
     let k = c.args.known.now in
     let st = state_of k c.args.stacks.now in
     record {
-      ok = row_added c.argument_row.result k c.args.graph.now c.argument_row.new.graph _ _ (λ w shows. ap (op_rows.expr_row w st) (sym c.in-Arg.is)) c.argument_row.ensures.ok;
-      err = row_halted c.argument_row.result k c.args.graph.now c.argument_row.new.graph _ _ (λ w shows. ap (op_rows.expr_row w st) (sym c.in-Arg.is)) c.argument_row.ensures.err;
+      ok = row_added c.argument_row.result k c.args.graph.now c.argument_row.new.graph _ _
+          (λ w shows. ap (op_rows.expr_row w st) (sym c.in-Arg.is)) c.argument_row.ensures.ok;
+      err = row_halted c.argument_row.result k c.args.graph.now c.argument_row.new.graph _ _
+          (λ w shows. ap (op_rows.expr_row w st) (sym c.in-Arg.is)) c.argument_row.ensures.err;
     }
 
 -- the end of a call, whose arguments gave theirs, gives no constraint
@@ -160,8 +178,10 @@ returns-in-Arrow c =
     let k = c.args.known.now in
     let st = state_of k c.args.stacks.now in
     record {
-      ok = row_added c.arrow_row.result k c.args.graph.now c.arrow_row.new.graph _ _ (λ w shows. ap (op_rows.expr_row w st) (sym c.in-Arrow.is)) c.arrow_row.ensures.ok;
-      err = row_halted c.arrow_row.result k c.args.graph.now c.arrow_row.new.graph _ _ (λ w shows. ap (op_rows.expr_row w st) (sym c.in-Arrow.is)) c.arrow_row.ensures.err;
+      ok = row_added c.arrow_row.result k c.args.graph.now c.arrow_row.new.graph _ _
+          (λ w shows. ap (op_rows.expr_row w st) (sym c.in-Arrow.is)) c.arrow_row.ensures.ok;
+      err = row_halted c.arrow_row.result k c.args.graph.now c.arrow_row.new.graph _ _
+          (λ w shows. ap (op_rows.expr_row w st) (sym c.in-Arrow.is)) c.arrow_row.ensures.err;
     }
 
 -- a member behind `.` or `->` gives no constraint
@@ -180,6 +200,8 @@ returns-in-Label c =
     let k = c.args.known.now in
     let st = state_of k c.args.stacks.now in
     record {
-      ok = row_added c.form_here-in-Label.result k c.args.graph.now c.form_here-in-Label.new.graph _ _ (λ w shows. ap (op_rows.expr_row w st) (sym c.in-Label.is)) c.form_here-in-Label.ensures.ok;
-      err = row_halted c.form_here-in-Label.result k c.args.graph.now c.form_here-in-Label.new.graph _ _ (λ w shows. ap (op_rows.expr_row w st) (sym c.in-Label.is)) c.form_here-in-Label.ensures.err;
+      ok = row_added c.form_here-in-Label.result k c.args.graph.now c.form_here-in-Label.new.graph _ _
+          (λ w shows. ap (op_rows.expr_row w st) (sym c.in-Label.is)) c.form_here-in-Label.ensures.ok;
+      err = row_halted c.form_here-in-Label.result k c.args.graph.now c.form_here-in-Label.new.graph _ _
+          (λ w shows. ap (op_rows.expr_row w st) (sym c.in-Label.is)) c.form_here-in-Label.ensures.err;
     }

@@ -10,8 +10,10 @@ returns-in-Cast c =
     let k = c.args.known.now in
     let st = state_of k c.args.stacks.now in
     record {
-      ok = row_added c.cast_row.result k c.args.graph.now c.cast_row.new.graph _ _ (λ w shows. ap (op_rows.form_row w st) (sym c.in-Cast.is)) c.cast_row.ensures.ok;
-      err = row_halted c.cast_row.result k c.args.graph.now c.cast_row.new.graph _ _ (λ w shows. ap (op_rows.form_row w st) (sym c.in-Cast.is)) c.cast_row.ensures.err;
+      ok = row_added c.cast_row.result k c.args.graph.now c.cast_row.new.graph _ _
+          (λ w shows. ap (op_rows.form_row w st) (sym c.in-Cast.is)) c.cast_row.ensures.ok;
+      err = row_halted c.cast_row.result k c.args.graph.now c.cast_row.new.graph _ _
+          (λ w shows. ap (op_rows.form_row w st) (sym c.in-Cast.is)) c.cast_row.ensures.err;
     }
 
 -- `sizeof` gives no constraint
@@ -40,8 +42,10 @@ returns-in-VaArg c =
     let k = c.args.known.now in
     let st = state_of k c.args.stacks.now in
     record {
-      ok = row_added c.va_arg_row.result k c.args.graph.now c.va_arg_row.new.graph _ _ (λ w shows. ap (op_rows.form_row w st) (sym c.in-VaArg.is)) c.va_arg_row.ensures.ok;
-      err = row_halted c.va_arg_row.result k c.args.graph.now c.va_arg_row.new.graph _ _ (λ w shows. ap (op_rows.form_row w st) (sym c.in-VaArg.is)) c.va_arg_row.ensures.err;
+      ok = row_added c.va_arg_row.result k c.args.graph.now c.va_arg_row.new.graph _ _
+          (λ w shows. ap (op_rows.form_row w st) (sym c.in-VaArg.is)) c.va_arg_row.ensures.ok;
+      err = row_halted c.va_arg_row.result k c.args.graph.now c.va_arg_row.new.graph _ _
+          (λ w shows. ap (op_rows.form_row w st) (sym c.in-VaArg.is)) c.va_arg_row.ensures.err;
     }
 
 -- the op of `va_start` adds its row, or halts in it
@@ -50,8 +54,10 @@ returns-in-VaStart c =
     let k = c.args.known.now in
     let st = state_of k c.args.stacks.now in
     record {
-      ok = row_added c.va_start_row.result k c.args.graph.now c.va_start_row.new.graph _ _ (λ w shows. ap (op_rows.form_row w st) (sym c.in-VaStart.is)) c.va_start_row.ensures.ok;
-      err = row_halted c.va_start_row.result k c.args.graph.now c.va_start_row.new.graph _ _ (λ w shows. ap (op_rows.form_row w st) (sym c.in-VaStart.is)) c.va_start_row.ensures.err;
+      ok = row_added c.va_start_row.result k c.args.graph.now c.va_start_row.new.graph _ _
+          (λ w shows. ap (op_rows.form_row w st) (sym c.in-VaStart.is)) c.va_start_row.ensures.ok;
+      err = row_halted c.va_start_row.result k c.args.graph.now c.va_start_row.new.graph _ _
+          (λ w shows. ap (op_rows.form_row w st) (sym c.in-VaStart.is)) c.va_start_row.ensures.err;
     }
 
 -- the op of `va_copy` adds its row, or halts in it
@@ -60,8 +66,10 @@ returns-in-VaCopy c =
     let k = c.args.known.now in
     let st = state_of k c.args.stacks.now in
     record {
-      ok = row_added c.va_copy_row.result k c.args.graph.now c.va_copy_row.new.graph _ _ (λ w shows. ap (op_rows.form_row w st) (sym c.in-VaCopy.is)) c.va_copy_row.ensures.ok;
-      err = row_halted c.va_copy_row.result k c.args.graph.now c.va_copy_row.new.graph _ _ (λ w shows. ap (op_rows.form_row w st) (sym c.in-VaCopy.is)) c.va_copy_row.ensures.err;
+      ok = row_added c.va_copy_row.result k c.args.graph.now c.va_copy_row.new.graph _ _
+          (λ w shows. ap (op_rows.form_row w st) (sym c.in-VaCopy.is)) c.va_copy_row.ensures.ok;
+      err = row_halted c.va_copy_row.result k c.args.graph.now c.va_copy_row.new.graph _ _
+          (λ w shows. ap (op_rows.form_row w st) (sym c.in-VaCopy.is)) c.va_copy_row.ensures.err;
     }
 
 -- a member in `offsetof` gives no constraint
@@ -130,8 +138,10 @@ returns-in-Choose c =
     let k = c.args.known.now in
     let st = state_of k c.args.stacks.now in
     record {
-      ok = row_added c.choose_row.result k c.args.graph.now c.choose_row.new.graph _ _ (λ w shows. ap (op_rows.form_row w st) (sym c.in-Choose.is)) c.choose_row.ensures.ok;
-      err = row_halted c.choose_row.result k c.args.graph.now c.choose_row.new.graph _ _ (λ w shows. ap (op_rows.form_row w st) (sym c.in-Choose.is)) c.choose_row.ensures.err;
+      ok = row_added c.choose_row.result k c.args.graph.now c.choose_row.new.graph _ _
+          (λ w shows. ap (op_rows.form_row w st) (sym c.in-Choose.is)) c.choose_row.ensures.ok;
+      err = row_halted c.choose_row.result k c.args.graph.now c.choose_row.new.graph _ _
+          (λ w shows. ap (op_rows.form_row w st) (sym c.in-Choose.is)) c.choose_row.ensures.err;
     }
 
 -- the op of a selection by a type adds its row, or halts in it
@@ -140,6 +150,8 @@ returns-in-Generic c =
     let k = c.args.known.now in
     let st = state_of k c.args.stacks.now in
     record {
-      ok = row_added c.select_row.result k c.args.graph.now c.select_row.new.graph _ _ (λ w shows. ap (op_rows.form_row w st) (sym c.in-Generic.is)) c.select_row.ensures.ok;
-      err = row_halted c.select_row.result k c.args.graph.now c.select_row.new.graph _ _ (λ w shows. ap (op_rows.form_row w st) (sym c.in-Generic.is)) c.select_row.ensures.err;
+      ok = row_added c.select_row.result k c.args.graph.now c.select_row.new.graph _ _
+          (λ w shows. ap (op_rows.form_row w st) (sym c.in-Generic.is)) c.select_row.ensures.ok;
+      err = row_halted c.select_row.result k c.args.graph.now c.select_row.new.graph _ _
+          (λ w shows. ap (op_rows.form_row w st) (sym c.in-Generic.is)) c.select_row.ensures.err;
     }

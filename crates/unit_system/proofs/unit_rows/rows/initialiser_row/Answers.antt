@@ -10,8 +10,10 @@ returns-in-Value c =
     let k = c.args.known.now in
     let st = state_of k c.args.stacks.now in
     record {
-      ok = row_added c.value_row.result k c.args.graph.now c.value_row.new.graph _ _ (λ w shows. ap (op_rows.init_row w st) (sym c.in-Value.is)) c.value_row.ensures.ok;
-      err = row_halted c.value_row.result k c.args.graph.now c.value_row.new.graph _ _ (λ w shows. ap (op_rows.init_row w st) (sym c.in-Value.is)) c.value_row.ensures.err;
+      ok = row_added c.value_row.result k c.args.graph.now c.value_row.new.graph _ _
+          (λ w shows. ap (op_rows.init_row w st) (sym c.in-Value.is)) c.value_row.ensures.ok;
+      err = row_halted c.value_row.result k c.args.graph.now c.value_row.new.graph _ _
+          (λ w shows. ap (op_rows.init_row w st) (sym c.in-Value.is)) c.value_row.ensures.err;
     }
 
 -- the begin of the values of an initialiser in braces gives no constraint
@@ -40,8 +42,10 @@ returns-in-Literal c =
     let k = c.args.known.now in
     let st = state_of k c.args.stacks.now in
     record {
-      ok = row_added c.literal_row.result k c.args.graph.now c.literal_row.new.graph _ _ (λ w shows. ap (op_rows.init_row w st) (sym c.in-Literal.is)) c.literal_row.ensures.ok;
-      err = row_halted c.literal_row.result k c.args.graph.now c.literal_row.new.graph _ _ (λ w shows. ap (op_rows.init_row w st) (sym c.in-Literal.is)) c.literal_row.ensures.err;
+      ok = row_added c.literal_row.result k c.args.graph.now c.literal_row.new.graph _ _
+          (λ w shows. ap (op_rows.init_row w st) (sym c.in-Literal.is)) c.literal_row.ensures.ok;
+      err = row_halted c.literal_row.result k c.args.graph.now c.literal_row.new.graph _ _
+          (λ w shows. ap (op_rows.init_row w st) (sym c.in-Literal.is)) c.literal_row.ensures.err;
     }
 
 -- the begin of a list in braces gives no constraint
@@ -80,8 +84,10 @@ returns-in-Leaf c =
     let k = c.args.known.now in
     let st = state_of k c.args.stacks.now in
     record {
-      ok = row_added c.leaf_row.result k c.args.graph.now c.leaf_row.new.graph _ _ (λ w shows. ap (op_rows.init_row w st) (sym c.in-Leaf.is)) c.leaf_row.ensures.ok;
-      err = row_halted c.leaf_row.result k c.args.graph.now c.leaf_row.new.graph _ _ (λ w shows. ap (op_rows.init_row w st) (sym c.in-Leaf.is)) c.leaf_row.ensures.err;
+      ok = row_added c.leaf_row.result k c.args.graph.now c.leaf_row.new.graph _ _
+          (λ w shows. ap (op_rows.init_row w st) (sym c.in-Leaf.is)) c.leaf_row.ensures.ok;
+      err = row_halted c.leaf_row.result k c.args.graph.now c.leaf_row.new.graph _ _
+          (λ w shows. ap (op_rows.init_row w st) (sym c.in-Leaf.is)) c.leaf_row.ensures.err;
     }
 
 -- the end of a list in braces gives no constraint

@@ -10,8 +10,10 @@ returns-in-Expr c =
     let k = c.args.known.now in
     let st = state_of k c.args.stacks.now in
     record {
-      ok = row_added c.expression_row.result k c.args.graph.now c.expression_row.new.graph _ _ (λ w shows. ap (op_rows.loud_row w st) (sym c.in-Expr.is)) c.expression_row.ensures.ok;
-      err = row_halted c.expression_row.result k c.args.graph.now c.expression_row.new.graph _ _ (λ w shows. ap (op_rows.loud_row w st) (sym c.in-Expr.is)) c.expression_row.ensures.err;
+      ok = row_added c.expression_row.result k c.args.graph.now c.expression_row.new.graph _ _
+          (λ w shows. ap (op_rows.loud_row w st) (sym c.in-Expr.is)) c.expression_row.ensures.ok;
+      err = row_halted c.expression_row.result k c.args.graph.now c.expression_row.new.graph _ _
+          (λ w shows. ap (op_rows.loud_row w st) (sym c.in-Expr.is)) c.expression_row.ensures.err;
     }
 
 -- an op of a form adds its row, or halts in it
@@ -20,8 +22,10 @@ returns-in-Form c =
     let k = c.args.known.now in
     let st = state_of k c.args.stacks.now in
     record {
-      ok = row_added c.form_row.result k c.args.graph.now c.form_row.new.graph _ _ (λ w shows. ap (op_rows.loud_row w st) (sym c.in-Form.is)) c.form_row.ensures.ok;
-      err = row_halted c.form_row.result k c.args.graph.now c.form_row.new.graph _ _ (λ w shows. ap (op_rows.loud_row w st) (sym c.in-Form.is)) c.form_row.ensures.err;
+      ok = row_added c.form_row.result k c.args.graph.now c.form_row.new.graph _ _
+          (λ w shows. ap (op_rows.loud_row w st) (sym c.in-Form.is)) c.form_row.ensures.ok;
+      err = row_halted c.form_row.result k c.args.graph.now c.form_row.new.graph _ _
+          (λ w shows. ap (op_rows.loud_row w st) (sym c.in-Form.is)) c.form_row.ensures.err;
     }
 
 -- an op of an initialiser adds its row, or halts in it
@@ -30,8 +34,10 @@ returns-in-Init c =
     let k = c.args.known.now in
     let st = state_of k c.args.stacks.now in
     record {
-      ok = row_added c.initialiser_row.result k c.args.graph.now c.initialiser_row.new.graph _ _ (λ w shows. ap (op_rows.loud_row w st) (sym c.in-Init.is)) c.initialiser_row.ensures.ok;
-      err = row_halted c.initialiser_row.result k c.args.graph.now c.initialiser_row.new.graph _ _ (λ w shows. ap (op_rows.loud_row w st) (sym c.in-Init.is)) c.initialiser_row.ensures.err;
+      ok = row_added c.initialiser_row.result k c.args.graph.now c.initialiser_row.new.graph _ _
+          (λ w shows. ap (op_rows.loud_row w st) (sym c.in-Init.is)) c.initialiser_row.ensures.ok;
+      err = row_halted c.initialiser_row.result k c.args.graph.now c.initialiser_row.new.graph _ _
+          (λ w shows. ap (op_rows.loud_row w st) (sym c.in-Init.is)) c.initialiser_row.ensures.err;
     }
 
 -- an op of specifiers adds its row, or halts in it
@@ -40,8 +46,10 @@ returns-in-Spec c =
     let k = c.args.known.now in
     let st = state_of k c.args.stacks.now in
     record {
-      ok = row_added c.specifier_row.result k c.args.graph.now c.specifier_row.new.graph _ _ (λ w shows. ap (op_rows.loud_row w st) (sym c.in-Spec.is)) c.specifier_row.ensures.ok;
-      err = row_halted c.specifier_row.result k c.args.graph.now c.specifier_row.new.graph _ _ (λ w shows. ap (op_rows.loud_row w st) (sym c.in-Spec.is)) c.specifier_row.ensures.err;
+      ok = row_added c.specifier_row.result k c.args.graph.now c.specifier_row.new.graph _ _
+          (λ w shows. ap (op_rows.loud_row w st) (sym c.in-Spec.is)) c.specifier_row.ensures.ok;
+      err = row_halted c.specifier_row.result k c.args.graph.now c.specifier_row.new.graph _ _
+          (λ w shows. ap (op_rows.loud_row w st) (sym c.in-Spec.is)) c.specifier_row.ensures.err;
     }
 
 -- an op of a declarator adds its row, or halts in it
@@ -50,8 +58,10 @@ returns-in-Declr c =
     let k = c.args.known.now in
     let st = state_of k c.args.stacks.now in
     record {
-      ok = row_added c.declarator_row.result k c.args.graph.now c.declarator_row.new.graph _ _ (λ w shows. ap (op_rows.loud_row w st) (sym c.in-Declr.is)) c.declarator_row.ensures.ok;
-      err = row_halted c.declarator_row.result k c.args.graph.now c.declarator_row.new.graph _ _ (λ w shows. ap (op_rows.loud_row w st) (sym c.in-Declr.is)) c.declarator_row.ensures.err;
+      ok = row_added c.declarator_row.result k c.args.graph.now c.declarator_row.new.graph _ _
+          (λ w shows. ap (op_rows.loud_row w st) (sym c.in-Declr.is)) c.declarator_row.ensures.ok;
+      err = row_halted c.declarator_row.result k c.args.graph.now c.declarator_row.new.graph _ _
+          (λ w shows. ap (op_rows.loud_row w st) (sym c.in-Declr.is)) c.declarator_row.ensures.err;
     }
 
 -- an op of a statement adds its row, or halts in it
@@ -60,6 +70,8 @@ returns-in-Stmt c =
     let k = c.args.known.now in
     let st = state_of k c.args.stacks.now in
     record {
-      ok = row_added c.statement_row.result k c.args.graph.now c.statement_row.new.graph _ _ (λ w shows. ap (op_rows.loud_row w st) (sym c.in-Stmt.is)) c.statement_row.ensures.ok;
-      err = row_halted c.statement_row.result k c.args.graph.now c.statement_row.new.graph _ _ (λ w shows. ap (op_rows.loud_row w st) (sym c.in-Stmt.is)) c.statement_row.ensures.err;
+      ok = row_added c.statement_row.result k c.args.graph.now c.statement_row.new.graph _ _
+          (λ w shows. ap (op_rows.loud_row w st) (sym c.in-Stmt.is)) c.statement_row.ensures.ok;
+      err = row_halted c.statement_row.result k c.args.graph.now c.statement_row.new.graph _ _
+          (λ w shows. ap (op_rows.loud_row w st) (sym c.in-Stmt.is)) c.statement_row.ensures.err;
     }

@@ -85,8 +85,10 @@ pub returns-in-UnnamedMember : goal.returns-in-UnnamedMember
 returns-in-UnnamedMember c =
     let k = c.args.known.now in
     record {
-      ok = row_added c.form_here.result k c.args.graph.now c.form_here.new.graph _ _ (λ w shows. ap (op_rows.spec_row w) (sym c.in-UnnamedMember.is)) c.form_here.ensures.ok;
-      err = row_halted c.form_here.result k c.args.graph.now c.form_here.new.graph _ _ (λ w shows. ap (op_rows.spec_row w) (sym c.in-UnnamedMember.is)) c.form_here.ensures.err;
+      ok = row_added c.form_here.result k c.args.graph.now c.form_here.new.graph _ _
+          (λ w shows. ap (op_rows.spec_row w) (sym c.in-UnnamedMember.is)) c.form_here.ensures.ok;
+      err = row_halted c.form_here.result k c.args.graph.now c.form_here.new.graph _ _
+          (λ w shows. ap (op_rows.spec_row w) (sym c.in-UnnamedMember.is)) c.form_here.ensures.err;
     }
 
 -- the begin of a type in parentheses, as by `typeof`, gives no constraint

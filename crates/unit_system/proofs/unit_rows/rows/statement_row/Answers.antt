@@ -40,8 +40,10 @@ returns-in-Return c =
     let k = c.args.known.now in
     let st = state_of k c.args.stacks.now in
     record {
-      ok = row_added c.return_row.result k c.args.graph.now c.return_row.new.graph _ _ (λ w shows. ap (op_rows.stmt_row w st) (sym c.in-Return.is)) c.return_row.ensures.ok;
-      err = row_halted c.return_row.result k c.args.graph.now c.return_row.new.graph _ _ (λ w shows. ap (op_rows.stmt_row w st) (sym c.in-Return.is)) c.return_row.ensures.err;
+      ok = row_added c.return_row.result k c.args.graph.now c.return_row.new.graph _ _
+          (λ w shows. ap (op_rows.stmt_row w st) (sym c.in-Return.is)) c.return_row.ensures.ok;
+      err = row_halted c.return_row.result k c.args.graph.now c.return_row.new.graph _ _
+          (λ w shows. ap (op_rows.stmt_row w st) (sym c.in-Return.is)) c.return_row.ensures.err;
     }
 
 -- the begin of a block gives no constraint

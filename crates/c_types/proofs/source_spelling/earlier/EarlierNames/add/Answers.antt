@@ -6,7 +6,7 @@ use Rattle.c_types.proofs.source_spelling.earlier.EarlierNames.add.Goals as goal
 pub returns-clause-keys : goal.returns-clause-keys
 returns-clause-keys c =
     let number : c.new.result ≡ c.args.self.now.count + c.args.name = search rules in
-    put_text c.in_ok-key.key (c.args.self.now.count + c.args.name) c.args.self.now.keys.entries c.insert.new.self.entries
-    c.args.text.now c.in_ok-key.ensures.items
+    put_text c.in_ok-key.key (c.args.self.now.count + c.args.name) c.args.self.now.keys.entries
+    c.insert.new.self.entries c.args.text.now c.in_ok-key.ensures.items
     (none_of _ c.contains_key.result c.contains_key.ensures c.if-contains_key.false)
     (c.in_ok-insert.ensures.updates.1 ∙ ap (λ (n : ℕ). Some n) number) c.in_ok-insert.ensures.updates.3

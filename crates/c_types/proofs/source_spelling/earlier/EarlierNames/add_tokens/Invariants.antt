@@ -8,7 +8,8 @@ abbrev pub invariant-loop-number : goal.invariant-loop-number
 invariant-loop-number l =
     record {
       keys : (t : List ℕ)
-          → or_behind (key_at l.self t) (past l.initial.self.count (name_among l.tokens (drop l.number l.tokens.tokens) t))
+          → or_behind (key_at l.self t)
+          (past l.initial.self.count (name_among l.tokens (drop l.number l.tokens.tokens) t))
           ≡ or_behind (key_at l.initial.self t) (past l.initial.self.count (name_among l.tokens l.tokens.tokens t));
       count : l.self.count ≡ l.initial.self.count;
     }

@@ -10,4 +10,5 @@ pub returns : goal.returns
 returns c =
     let ws = c.args.self.now.waiting.items in
     let count : length ws + 1 ≡ suc (how_many (stack_of ws)) = omega (arith, how_many_wait ws) in
-    c.sum_of.ensures (length ws) 1 (c.count_of.ensures ∙ ap capped (c.len.ensures ∙ (c.args.self.now.waiting.ok).0)) refl ∙ ap capped count
+    c.sum_of.ensures (length ws) 1
+    (c.count_of.ensures ∙ ap capped (c.len.ensures ∙ (c.args.self.now.waiting.ok).0)) refl ∙ ap capped count

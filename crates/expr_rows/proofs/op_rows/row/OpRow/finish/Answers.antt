@@ -9,4 +9,5 @@ pub returns : goal.returns
 returns c =
     let ws = c.args.self.waiting.items in
     let e = expr c.args.self.last in
-    IfOk-weaker c.settle.result _ _ (λ made is. finished_all ws e (settled_at c.settle.new.waiting.items (expr made)) is) c.settle.ensures
+    IfOk-weaker c.settle.result _ _
+    (λ made is. finished_all ws e (settled_at c.settle.new.waiting.items (expr made)) is) c.settle.ensures

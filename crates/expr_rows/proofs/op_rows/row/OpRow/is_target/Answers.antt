@@ -9,7 +9,8 @@ pub returns-then-continues : goal.returns-then-continues
 returns-then-continues c =
     let ws = c.args.self.now.waiting.items in
     let e = expr c.args.self.now.last in
-    let newest = read_last ws c.deref.result.now c.last.result c.in-Some.newest c.deref.ensures.value c.last.ensures.value c.in-Some.is in
+    let newest = read_last ws c.deref.result.now c.last.result c.in-Some.newest c.deref.ensures.value
+    c.last.ensures.value c.in-Some.is in
     let goes_on = accepts_newest ws c.in-Some.newest.now 1 newest (sym c.continues.ensures ∙ c.if-continues.true) in
     cc (c.is_unary.ensures, c.deref-then-continues.ensures, kept_last ws e 1 goes_on)
 
@@ -18,5 +19,7 @@ pub returns-else-continues : goal.returns-else-continues
 returns-else-continues c =
     let ws = c.args.self.now.waiting.items in
     let e = expr c.args.self.now.last in
-    let newest = read_last ws c.deref.result.now c.last.result c.in-Some.newest c.deref.ensures.value c.last.ensures.value c.in-Some.is in
-    c.if-continues.false ∙ sym (joined_last ws c.in-Some.newest.now e 1 newest (sym c.continues.ensures ∙ c.if-continues.false))
+    let newest = read_last ws c.deref.result.now c.last.result c.in-Some.newest c.deref.ensures.value
+    c.last.ensures.value c.in-Some.is in
+    c.if-continues.false
+    ∙ sym (joined_last ws c.in-Some.newest.now e 1 newest (sym c.continues.ensures ∙ c.if-continues.false))

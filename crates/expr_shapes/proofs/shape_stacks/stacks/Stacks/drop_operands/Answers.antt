@@ -5,6 +5,7 @@ use Rattle.expr_shapes.specs.ShapeStacks.Views.{state_in, operand_in}
 use Rattle.expr_shapes.proofs.ShapeStacks.Lists.{dropped_viewed, put_viewed}
 use Rattle.expr_shapes.proofs.shape_stacks.stacks.Stacks.drop_operands.Goals as goal
 
+-- so many operands dropped show so many dropped by the rules
 pub returns : goal.returns
 returns c =
     λ rows. dropped_viewed rows c.args.count

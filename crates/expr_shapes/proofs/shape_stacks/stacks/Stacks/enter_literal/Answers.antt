@@ -9,6 +9,7 @@ use Rattle.expr_shapes.specs.ShapeStacks.Views.{state_in}
 use Rattle.expr_shapes.proofs.ShapeStacks.Lists.{left_viewed, set_viewed}
 use Rattle.expr_shapes.proofs.shape_stacks.stacks.Stacks.enter_literal.Goals as goal
 
+-- the list of a compound literal is gone through for the type that lies under its operands
 pub returns : goal.returns
 returns c =
     on_ok_weaker c.enter.result (λ entered rows. entered rows

@@ -9,6 +9,7 @@ use Rattle.expr_shapes.specs.ShapeStacks.Views.{state_in}
 use Rattle.expr_shapes.proofs.ShapeStacks.Lists.{left_viewed, set_viewed}
 use Rattle.expr_shapes.proofs.shape_stacks.stacks.Stacks.leave.Goals as goal
 
+-- leaving an initialiser in braces drops its operands and its list, as the rules do
 pub returns : goal.returns
 returns c =
     λ rows. left_viewed rows

@@ -9,6 +9,7 @@ use Rattle.expr_shapes.specs.ShapeStacks.Views.{state_in}
 use Rattle.expr_shapes.proofs.ShapeStacks.Lists.{left_viewed, set_viewed}
 use Rattle.expr_shapes.proofs.shape_stacks.stacks.Stacks.leave_literal.Goals as goal
 
+-- leaving a compound literal puts a place of its type where that type was
 pub returns : goal.returns
 returns c =
     on_ok_weaker c.put.result (λ put rows. put rows

@@ -7,6 +7,7 @@ use Rattle.expr_shapes.specs.ShapeStacks.Views.{state_in, operand_in}
 use Rattle.expr_shapes.proofs.ShapeStacks.Lists.{dropped_viewed, put_viewed}
 use Rattle.expr_shapes.proofs.shape_stacks.stacks.Stacks.put_operand.Goals as goal
 
+-- an operand put in place of so many is put so by the rules
 pub returns : goal.returns
 returns c =
     on_ok_weaker c.push.result (λ pushed rows.

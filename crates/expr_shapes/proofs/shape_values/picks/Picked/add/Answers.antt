@@ -5,8 +5,10 @@ use Rattle.expr_shapes.specs.ShapeValues.Views.{some_value_type}
 use Rattle.expr_shapes.proofs.ShapeValues.Candidates.{zero_added, other_added}
 use Rattle.expr_shapes.proofs.shape_values.picks.Picked.add.Goals as goal
 
+-- a candidate that is no zero is added to all and to those that are none
 pub returns-then-not-is_zero : goal.returns-then-not-is_zero
-returns-then-not-is_zero c = λ all p. other_added c.args.types.now all (candidate_in c.args.types.now c.args.shape.now c.args.is_zero)
+returns-then-not-is_zero c =
+    λ all p. other_added c.args.types.now all (candidate_in c.args.types.now c.args.shape.now c.args.is_zero)
     c.args.self.now _ p
     record {
       count = c.more-self.ensures;
@@ -20,8 +22,10 @@ returns-then-not-is_zero c = λ all p. other_added c.args.types.now all (candida
     (c.higher-self-then-not-is_zero.ensures ∙
     ap (λ t. higher_of (some_value_type c.args.types.now c.args.self.now.highest_other) t) c.value-value.ensures)
 
+-- a candidate that is a zero is added to all alone
 pub returns-else-not-is_zero : goal.returns-else-not-is_zero
-returns-else-not-is_zero c = λ all p. zero_added c.args.types.now all (candidate_in c.args.types.now c.args.shape.now c.args.is_zero)
+returns-else-not-is_zero c =
+    λ all p. zero_added c.args.types.now all (candidate_in c.args.types.now c.args.shape.now c.args.is_zero)
     c.args.self.now _ p
     record {
       count = c.more-self.ensures;

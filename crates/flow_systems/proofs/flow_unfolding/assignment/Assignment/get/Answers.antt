@@ -11,6 +11,7 @@ loop-change-preserved c =
     let i : ℕ = c.loop-change.change-index in
     let Short : List Change → Type 0 = λ k. i < length k in
     c.loop-change.invariant
-    ∙ last-step items i c.loop-change.elem c.args.at c.args.sites.now c.change-item.result (subst Short c.deref-change-items.ensures.value c.loop-change-test.true)
+    ∙ last-step items i c.loop-change.elem c.args.at c.args.sites.now c.change-item.result
+    (subst Short c.deref-change-items.ensures.value c.loop-change-test.true)
     (c.change-item.is ∙ ap (λ k. get_or k i c.change-item.result) c.deref-change-items.ensures.value)
     ∙ ap (λ e. last_change (drop (i + 1) items) e c.args.at c.args.sites.now) (sym c.element_or-elem.ensures)

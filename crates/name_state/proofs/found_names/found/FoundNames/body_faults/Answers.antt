@@ -5,6 +5,7 @@ use Rattle.name_state.specs.declared.unit_names.names.Names.{Names}
 use Rattle.name_state.specs.UnitNames.Shown.{names_of}
 use Rattle.name_state.proofs.found_names.found.FoundNames.body_faults.Goals as goal
 
+-- the faults of bodies, as shown, are those that the rules find in the names
 pub returns : goal.returns
 returns c =
     IfOk-weaker c.body_faults.result _ _

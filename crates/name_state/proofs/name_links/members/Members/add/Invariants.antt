@@ -4,6 +4,7 @@ use Rattle.name_tables.specs.PlaceMap.Values.{or_else}
 use Rattle.name_state.specs.NameLinks.Tables.{member_there, first_known}
 use Rattle.name_state.proofs.name_links.members.Members.add.Given as goal
 
+-- each place has what is known of it, or else of the members left, as at first: by the struct and by its key
 abbrev pub invariant-loop-it : goal.invariant-loop-it
 invariant-loop-it l =
     record {

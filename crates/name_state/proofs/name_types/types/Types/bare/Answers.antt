@@ -4,6 +4,7 @@ use Rattle.name_rules.specs.Pieces.{bare}
 use Rattle.name_state.proofs.NameTypes.Bare.{past_is}
 use Rattle.name_state.proofs.name_types.types.Types.bare.Goals as goal
 
+-- the bare type of a number past the table is the base type
 pub returns-then-number-len-clause-made : goal.returns-then-number-len-clause-made
 returns-then-number-len-clause-made c =
     let a = c.number.ensures in

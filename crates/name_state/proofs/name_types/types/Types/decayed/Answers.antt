@@ -3,6 +3,7 @@ use Rattle.type_table.specs.Types.{pointer}
 use Rattle.name_state.proofs.NameTypes.Knowing.{knows_before, decayed_function, decayed_other}
 use Rattle.name_state.proofs.name_types.types.Types.decayed.Goals as goal
 
+-- the pointer made of a function type is what the type decays to
 pub returns-in_ok-at-clause-made : goal.returns-in_ok-at-clause-made
 returns-in_ok-at-clause-made c =
     λ t knows.

@@ -10,9 +10,12 @@ same_words true ws = refl
 same_words false ws = refl
 
 pub add-requires : goal.add-requires
-add-requires c =
-    (below_more _ _ c.args.params.items c.in_ok-result.ensures.grown.longer c.requires.params, c.in_ok-result.ensures.low)
+add-requires c = (
+  below_more _ _ c.args.params.items c.in_ok-result.ensures.grown.longer c.requires.params,
+  c.in_ok-result.ensures.low,
+)
 
+-- the function type made is of the given parameters and ellipsis, and its result has decayed
 pub returns-clause-made : goal.returns-clause-made
 returns-clause-made c =
     λ t knows.

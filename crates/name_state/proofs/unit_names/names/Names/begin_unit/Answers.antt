@@ -5,6 +5,7 @@ use Rattle.name_state.proofs.UnitNames.Sharing.{first_begun, other_begun}
 use Rattle.name_state.proofs.unit_names.names.Names.begin_unit.Goals as goal
 use Rattle.name_state.proofs.unit_names.names.Names.begin_unit.Goals.{then-number-eq1+in_ok-share, else-number-eq1}
 
+-- a unit begins with a file scope of its own, and the first source with what the prelude shares
 pub returns : goal.returns
 returns c =
     λ t.

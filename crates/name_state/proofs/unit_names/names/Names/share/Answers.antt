@@ -4,6 +4,7 @@ use Rattle.name_state.specs.UnitNames.Shared.{shared}
 use Rattle.name_state.proofs.UnitNames.Sharing.{shared_is_round}
 use Rattle.name_state.proofs.unit_names.names.Names.share.Goals as goal
 
+-- behind the prelude its scope is left, and what its objects and functions share is round the sources
 pub returns : goal.returns
 returns c =
     λ t.

@@ -4,16 +4,19 @@ use Rattle.name_tables.specs.NameRecords.Aggregates.{with_body}
 use Rattle.name_tables.proofs.NameRecords.Changed.{changed, unchanged, past}
 use Rattle.name_tables.proofs.name_records.aggregates.Aggregates.open.Goals as goal
 
+-- a struct that is not there has no body begun, and the structs stay as they are
 pub returns-in_default : goal.returns-in_default
 returns-in_default c =
     let all = c.self.inside.all in
     let change = (with_body (λ body. body)) in
     let size = all.ok.0 in
-    let beyond : length all.items ≤ c.number.result = let p = past c.number.result _ c.in_default.ensures.variant.1 in omega arith in
+    let beyond : length all.items ≤ c.number.result = let p = past c.number.result _ c.in_default.ensures.variant.1 in
+    omega arith in
     unchanged all.items c.number.result change beyond
     ∙ ap (λ n. changed_at all.items n change) c.number.ensures
     ∙ ap (λ xs. changed_at xs c.args.number change) c.self.view_is
 
+-- a struct that is there has its body begun, or the one that it has goes on
 pub returns : goal.returns
 returns c =
     let all = c.self.inside.all in
@@ -21,6 +24,7 @@ returns c =
     let size = all.ok.0 in
     let there = c.in-Some.ensures.variant.0 refl in
     let within : c.number.result < length all.items = omega arith in
-    changed all.items c.number.result c.in-Some.it.now c.open.new.self change within c.in-Some.ensures.value c.open.ensures
+    changed all.items c.number.result c.in-Some.it.now c.open.new.self change within c.in-Some.ensures.value
+    c.open.ensures
     ∙ ap (λ n. changed_at all.items n change) c.number.ensures
     ∙ ap (λ xs. changed_at xs c.args.number change) c.self.view_is

@@ -4,6 +4,7 @@ use Rattle.name_tables.specs.NameScopes.Meanings.{meant_through}
 use Rattle.name_tables.proofs.NameScopes.Known.{meant_known}
 use Rattle.name_tables.proofs.name_scopes.scopes.Scopes.meaning.Goals as goal
 
+-- the meaning of a name by the table is that of the innermost scope that gives it one
 pub returns : goal.returns
 returns c =
     c.newest.ensures

@@ -4,6 +4,7 @@ use Rattle.name_tables.specs.NameScopes.Meanings.{OneScope, innermost}
 use Rattle.name_tables.proofs.NameScopes.Known.{meant_here}
 use Rattle.name_tables.proofs.name_scopes.scopes.Scopes.meaning_here.Goals as goal
 
+-- the meaning of a name in the innermost scope of the table is that which the scope gives it
 pub returns : goal.returns
 returns c =
     c.newest_here.ensures

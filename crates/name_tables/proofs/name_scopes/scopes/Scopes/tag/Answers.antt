@@ -4,6 +4,7 @@ use Rattle.name_tables.specs.NameScopes.Meanings.{tag_through}
 use Rattle.name_tables.proofs.NameScopes.Known.{tag_known}
 use Rattle.name_tables.proofs.name_scopes.scopes.Scopes.tag.Goals as goal
 
+-- the number of a tag by the table is that of the innermost scope that has it
 pub returns : goal.returns
 returns c =
     c.newest.ensures

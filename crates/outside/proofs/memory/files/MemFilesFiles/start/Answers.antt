@@ -9,8 +9,10 @@ pub invariant_of-self : goal.invariant_of-self
 invariant_of-self c =
     let files = files_of c.self.inside.files.items in
     let rest = rest_at c.self.inside.files.items c.self.inside.at in (
-      subst (AreRead files rest) (sym c.start.ensures.readings) (no_start files rest rest c.args.name.now c.self.inside.log.readings c.self.invariant.0),
-      shown_on c.self.inside.faults _ c.self.inside.log.failed _ c.self.invariant.1 c.saturating_add-self-inside-then-is_none.ensures c.start.ensures.failed,
+      subst (AreRead files rest) (sym c.start.ensures.readings)
+          (no_start files rest rest c.args.name.now c.self.inside.log.readings c.self.invariant.0),
+      shown_on c.self.inside.faults _ c.self.inside.log.failed _ c.self.invariant.1
+          c.saturating_add-self-inside-then-is_none.ensures c.start.ensures.failed,
     )
 
 pub returns-then-is_none-clause-agrees : goal.returns-then-is_none-clause-agrees
@@ -23,7 +25,8 @@ invariant_of-self-2 c =
     let rest = rest_at c.self.inside.files.items c.start_of-found.result in
     let whole : rest ≡ content_of files c.args.name.now = search rules in (
       subst (AreRead files rest) (sym c.start-2.ensures.readings)
-          (starts_read files (rest_at c.self.inside.files.items c.self.inside.at) rest c.args.name.now c.self.inside.log.readings whole c.self.invariant.0),
+          (starts_read files (rest_at c.self.inside.files.items c.self.inside.at) rest c.args.name.now
+          c.self.inside.log.readings whole c.self.invariant.0),
       shown_same c.self.inside.faults c.self.inside.log.failed _ c.self.invariant.1 c.start-2.ensures.failed,
     )
 

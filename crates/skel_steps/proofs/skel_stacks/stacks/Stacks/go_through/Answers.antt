@@ -21,9 +21,7 @@ returns c =
       declarations = c.self.inside.declarations;
       rounds = c.self.inside.rounds;
       passed = c.self.inside.passed;
-    }) c.depth_below-count.result c.take_leaves.new.leaves c.push.new.self c.args.target.now
-    c.in_ok-take_leaves.ensures
-    (c.depth_below-count.ensures.value t ∙ ap (λ (st : Stacked). states.depth_below (state_in t st)) (sym c.self.view_is))
-    pushed
-    ∙ ap (λ (st : Stacked). steps.gone_through (option_map (skel_in t) c.args.target.now) (state_in t st))
-    c.self.view_is) c.push.ensures.pushed
+    }) c.depth_below-count.result c.take_leaves.new.leaves c.push.new.self c.args.target.now c.in_ok-take_leaves.ensures
+    (c.depth_below-count.ensures.value t
+    ∙ ap (λ (st : Stacked). states.depth_below (state_in t st)) (sym c.self.view_is)) pushed ∙ ap (λ (st : Stacked).
+    steps.gone_through (option_map (skel_in t) c.args.target.now) (state_in t st)) c.self.view_is) c.push.ensures.pushed
