@@ -9,8 +9,6 @@ mod faults;
 mod ids;
 mod places;
 mod table;
-#[cfg(test)]
-mod tests;
 mod words;
 
 pub use faults::NoMemory;

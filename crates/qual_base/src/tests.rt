@@ -1,1 +1,0 @@
-//! What no clause says of tables and words is tried by rows of `part_rows`.
