@@ -7,8 +7,6 @@
 
 mod below;
 mod flows;
-#[cfg(test)]
-mod tests;
 mod work;
 
 pub use below::{Below, bounds_below};

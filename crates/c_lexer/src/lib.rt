@@ -15,8 +15,6 @@ mod marks;
 mod names;
 mod places;
 mod signs;
-#[cfg(test)]
-mod tests;
 mod text;
 mod token;
 mod tokens;

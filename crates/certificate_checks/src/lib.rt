@@ -7,8 +7,6 @@
 #![tactic(auto)]
 
 mod judging;
-#[cfg(test)]
-mod tests;
 mod texts;
 
 pub use judging::{CertCode, Verdict, judge_certificate};

@@ -10,8 +10,6 @@ mod lines;
 mod making;
 mod reader;
 mod section;
-#[cfg(test)]
-mod tests;
 
 pub use lines::{Line, line_kind};
 pub use reader::read_certificate;

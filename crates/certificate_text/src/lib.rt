@@ -7,8 +7,6 @@
 mod names;
 mod order;
 mod putting;
-#[cfg(test)]
-mod tests;
 mod text;
 
 pub use names::{end_at, ends, name_in, name_table};

@@ -7,8 +7,6 @@
 mod asked;
 mod command;
 mod numeral;
-#[cfg(test)]
-mod tests;
 mod words;
 
 pub use asked::{Asked, FileWords, Question};

@@ -1,7 +1,5 @@
 //! Units with their tapes, worked out by hand.
 
 mod laws;
-#[cfg(test)]
-mod tapes;
 
 pub use laws::tapes_of_examples;

@@ -14,8 +14,6 @@ mod picks;
 mod plain;
 pub mod shape_stacks;
 pub mod shape_values;
-#[cfg(test)]
-mod tests;
 
 pub use faults::{
     calls_no_function, has_no_pointer, has_wrong_count, index_has_no_pointer, is_no_place,

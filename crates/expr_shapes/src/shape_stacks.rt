@@ -5,8 +5,6 @@ mod declarations;
 mod operands;
 mod stack;
 mod stacks;
-#[cfg(test)]
-mod tests;
 
 pub use stack::Stack;
 pub use stacks::{Braces, OpenDeclaration, Operand, Stacks};

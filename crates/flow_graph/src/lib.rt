@@ -15,8 +15,6 @@ mod phase;
 mod proof;
 mod rows;
 mod step;
-#[cfg(test)]
-mod tests;
 
 pub use adjacency::{Adjacency, Beginnings};
 pub use conditions::{is_well_owned, names_elements};

@@ -6,8 +6,6 @@
 
 mod source;
 mod summary;
-#[cfg(test)]
-mod tests;
 mod writing;
 
 pub use source::{generated_source, lattice_bytes};

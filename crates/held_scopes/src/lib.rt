@@ -7,8 +7,6 @@
 
 mod scope;
 mod scopes;
-#[cfg(test)]
-mod tests;
 
 pub use scope::Closed;
 pub use scopes::TypedefScopes;

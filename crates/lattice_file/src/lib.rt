@@ -10,8 +10,6 @@ mod passing;
 mod places;
 mod reading;
 mod sharing;
-#[cfg(test)]
-mod tests;
 mod words;
 
 pub use blocks::Block;

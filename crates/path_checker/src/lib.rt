@@ -11,8 +11,6 @@ mod lines;
 mod report;
 pub mod report_checks;
 mod rules;
-#[cfg(test)]
-mod tests;
 
 pub use checking::{check, check_walk};
 pub use flow_graph::{BadStep, PathProof, PathStep, SubPath, Walk, Why};

@@ -2,8 +2,6 @@
 //! something is wrong.
 
 mod judging;
-#[cfg(test)]
-mod tests;
 mod texts;
 
 pub use judging::{Checked, Code, judge_report};

@@ -9,8 +9,6 @@ mod look;
 mod position;
 mod row;
 mod table;
-#[cfg(test)]
-mod tests;
 
 pub use look::{Kind, Look};
 pub use position::{Position, Step};

@@ -6,8 +6,6 @@
 
 mod row;
 mod table;
-#[cfg(test)]
-mod tests;
 
 pub use row::{Shape, TypeRow};
 pub use table::TypeTable;

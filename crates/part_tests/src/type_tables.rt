@@ -3,12 +3,11 @@
 ghost use Rattle.std.specs.Prelude.{◌≡◌, ◌<◌, ◌+◌, length, IfOk};
 ghost use Rattle.type_table.specs.Rows.{AreParts};
 
-use crate::row::Shape;
-use crate::table::TypeTable;
 use qual_base::{NoMemory, Numbered, StructId, TokenId, TypeId, UnitNo};
 use std::alloc::Global;
 use std::process::Abort;
 use std::test::Fail;
+use type_table::{Shape, TypeTable};
 
 /// A type without words.
 fn plain(alloc: Global, types: &mut TypeTable, shape: Shape) -> Result<TypeId, NoMemory>

@@ -1,11 +1,9 @@
 //! What no clause says: that ops succeed where there is memory.
 
-use crate::operands::{extension, number, text};
-use crate::operators::{condition, index, prefix};
-use crate::plain::Plain;
-use crate::shape_stacks::Stacks;
-use crate::shape_values::{ExprShape, ValueType};
 use c_words::Punct;
+use expr_shapes::shape_stacks::Stacks;
+use expr_shapes::shape_values::{ExprShape, ValueType};
+use expr_shapes::{Plain, condition, extension, index, number, prefix, text};
 use std::process::Abort;
 use std::test::Fail;
 use type_table::TypeTable;

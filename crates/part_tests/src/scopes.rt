@@ -1,7 +1,6 @@
 //! What no clause says: that names are taken where there is memory, and walks through sources.
 
-use crate::scope::Closed;
-use crate::scopes::TypedefScopes;
+use held_scopes::{Closed, TypedefScopes};
 use qual_base::{NameId, NoMemory, Numbered};
 use std::alloc::Global;
 use std::process::Abort;

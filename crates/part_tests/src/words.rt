@@ -1,7 +1,6 @@
 //! What no clause says: that calls succeed where there is memory, and what lists of words ask, worked out by hand.
 
-use crate::asked::{Asked, FileWords, Question};
-use crate::words::meaning;
+use cqual_words::{Asked, FileWords, Question, meaning};
 use std::alloc::{AllocError, Global};
 use std::test::Fail;
 

@@ -4,8 +4,7 @@ ghost use Rattle.std.specs.Prelude.{List, IfOk};
 ghost use Rattle.lattice_core.specs.Order.{Order};
 ghost use Rattle.flow_graph.specs.Unfolding.{NamesElements};
 
-use crate::judging::judge_certificate;
-use crate::texts::put_verdict;
+use certificate_checks::{judge_certificate, put_verdict};
 use flow_graph::{Constraint, FlowGraph, Link};
 use lattice_core::{Deref, Entry, Lattice, Lattices, Level, Name, Pair, Sign};
 use qual_base::{Numbered, Span, TokenId, UnitNo, VarId};

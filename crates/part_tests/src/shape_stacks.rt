@@ -1,7 +1,7 @@
 //! What no clause says: that there is room for what is pushed.
 
-use crate::shape_stacks::stacks::{Braces, Stacks};
-use crate::shape_values::ExprShape;
+use expr_shapes::shape_stacks::{Braces, Stacks};
+use expr_shapes::shape_values::ExprShape;
 use qual_base::{Numbered, TokenId};
 use std::process::Abort;
 use std::test::Fail;

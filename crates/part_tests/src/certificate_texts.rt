@@ -3,7 +3,7 @@
 ghost use Rattle.std.specs.Prelude.{◌≡◌, length};
 ghost use Rattle.flow_graph.specs.System.{IsWithin};
 
-use crate::certificate_text;
+use certificate_text::certificate_text;
 use closure_check::Part;
 use flow_graph::{Constraint, FlowGraph, Link};
 use qual_base::{Elem, ElemSet, LatticeNo, Numbered, Span, TokenId, UnitNo, VarId};

@@ -1,7 +1,7 @@
 //! What no clause says: the place of each fault of a text, and what well-formed files read as, by hand.
 
-use crate::{LatticeFileFault, read_lattices};
 use lattice_core::{LatticeFault, Lattices};
+use lattice_file::{LatticeFileFault, read_lattices};
 use std::alloc::{AllocError, Global};
 use std::test::Fail;
 

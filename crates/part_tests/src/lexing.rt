@@ -1,7 +1,6 @@
 //! What no clause says: that calls succeed where there is memory, and worked values.
 
-use crate::lexing::{LexFault, lex};
-use crate::tokens::Tokens;
+use c_lexer::{LexFault, Tokens, lex};
 use c_words::TokenKind;
 use qual_base::{Elem, LatticeNo, Numbered, QualWords, Spot, TokenId, UnitNo};
 use std::alloc::{AllocError, Global};

@@ -3,7 +3,7 @@
 ghost use Rattle.std.specs.Prelude.{◌≡◌, length};
 ghost use Rattle.flow_graph.specs.System.{IsWithin};
 
-use crate::{CertFault, read_certificate};
+use certificate_reader::{CertFault, read_certificate};
 use certificate_text::certificate_text;
 use flow_graph::{Constraint, FlowGraph, Link};
 use lattice_core::{Deref, Entry, Lattice, Lattices, Level, Name, Pair, Sign};

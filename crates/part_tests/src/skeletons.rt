@@ -3,9 +3,8 @@
 ghost use Rattle.std.specs.Prelude.{◌≡◌, ◌<◌, ◌+◌, length, IfOk};
 ghost use Rattle.type_table.specs.Rows.{AreParts};
 
-use crate::position::Step;
-use crate::table::{QualFault, VarTable};
 use qual_base::{FuncId, NoMemory, Numbered, Owner, SkelId, TokenId, TypeId, UnitNo, VarId};
+use qual_types::{QualFault, Step, VarRow, VarTable};
 use std::alloc::Global;
 use std::process::Abort;
 use std::test::Fail;
@@ -266,5 +265,5 @@ fn a_type_that_passes_the_limit_leaves_the_table(rt: HostRuntime) -> Result<(), 
 
 #[test]
 fn a_variable_takes_24_bytes(rt: HostRuntime) {
-    assert_eq!(rt; std::mem::size_of::<crate::row::VarRow>(), 24);
+    assert_eq!(rt; std::mem::size_of::<VarRow>(), 24);
 }

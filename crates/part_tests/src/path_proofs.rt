@@ -4,10 +4,8 @@
 ghost use Rattle.std.specs.Prelude.{◌<◌, ◌^◌};
 ghost use Rattle.flow_graph.specs.System.{IsWithin};
 
-mod cases;
-
-use self::cases::Form::{Bound, Const, Enter, Le, Leave};
-use self::cases::{
+use crate::path_cases::Form::{Bound, Const, Enter, Le, Leave};
+use crate::path_cases::{
     Answer, FILE_SITE_CASES, FILE_SITE_LINKS, FILE_SITE_OWNERS, FILE_SITE_SITES, Form,
     GLOBALS_CASES, GLOBALS_LINKS, GLOBALS_OWNERS, GLOBALS_SITES, RECURSIVE_CASES, RECURSIVE_LINKS,
     RECURSIVE_OWNERS, RECURSIVE_SITES, SHARED_CASES, SHARED_LINKS, SHARED_OWNERS, SHARED_SITES,
@@ -15,10 +13,9 @@ use self::cases::{
     TWO_FUNCTIONS_SITES, TWO_LATTICES_CASES, TWO_LATTICES_LINKS, TWO_LATTICES_OWNERS,
     TWO_LATTICES_SITES, WALKS,
 };
-use crate::checking::{check, check_walk};
-use crate::report::read_report;
 use flow_graph::{Constraint, FlowGraph, Link, PathStep, Site, SubPath, Walk};
 use lattice_core::{Deref, Entry, Lattice, Lattices, Level, Name, Pair, Sign};
+use path_checker::{check, check_walk, read_report};
 use qual_base::{
     EdgeId, Elem, FuncId, LatticeNo, Numbered, Owner, SiteId, Span, TokenId, UnitNo, VarId,
 };

@@ -1,7 +1,6 @@
 //! Sources and summaries written out by hand.
 
-use crate::source::{generated_source, lattice_bytes};
-use crate::summary::{Counts, put_summary};
+use generated_source::{Counts, generated_source, lattice_bytes, put_summary};
 use std::rt::HostRuntime;
 use std::test::Fail;
 

@@ -3,9 +3,7 @@
 ghost use Rattle.std.specs.Prelude.{◌≡◌, length};
 ghost use Rattle.flow_graph.specs.System.{IsWithin};
 
-use crate::adjacency::Adjacency;
-use crate::constraint::{Constraint, Link, Site};
-use crate::graph::FlowGraph;
+use flow_graph::{Adjacency, Constraint, FlowGraph, Link, Site};
 use qual_base::{
     EdgeId, Elem, FuncId, LatticeNo, Numbered, Owner, SiteId, Span, TokenId, UnitNo, VarId,
 };

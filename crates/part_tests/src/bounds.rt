@@ -3,7 +3,7 @@
 ghost use Rattle.std.specs.Prelude.{◌≡◌, length};
 ghost use Rattle.flow_graph.specs.System.{IsWithin};
 
-use crate::bounds_below;
+use bounds_below::bounds_below;
 use flow_graph::{Constraint, FlowGraph, Link, Site};
 use match_summary::summarise;
 use qual_base::{Elem, FuncId, LatticeNo, Numbered, Owner, SiteId, Span, TokenId, UnitNo, VarId};

@@ -3,7 +3,7 @@
 ghost use Rattle.std.specs.Prelude.{◌<◌, ◌^◌};
 ghost use Rattle.flow_graph.specs.System.{IsWithin};
 
-use crate::needed::{Case, NEEDED, PlainLink, Sets};
+use crate::needed_parts::{Case, NEEDED, PlainLink, Sets};
 use certificate_laws::CertRule;
 use closure_check::{CheckIndex, Part, check_part, is_part};
 use flow_graph::{Constraint, FlowGraph, Link, Site, names_elements};

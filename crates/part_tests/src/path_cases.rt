@@ -1,9 +1,9 @@
 //! Graphs by plain numbers, texts of path proofs over them with their answers, and texts that are read or refused.
 
-use crate::report::ReportFault;
-use crate::report::ReportFault::{Grammar, NoSuchConstraint};
 use flow_graph::Why;
 use flow_graph::Why::{B1, B2, B3, B4, B5, B6, B7};
+use path_checker::ReportFault;
+use path_checker::ReportFault::{Grammar, NoSuchConstraint};
 
 /// The first failing step's line and rule, or none.
 pub type Answer = Option<(u32, Why)>;

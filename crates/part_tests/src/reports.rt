@@ -3,10 +3,9 @@
 ghost use Rattle.std.specs.Prelude.{◌<◌, ◌^◌};
 ghost use Rattle.flow_graph.specs.System.{IsWithin};
 
-use crate::report_checks::judging::judge_report;
-use crate::report_checks::texts::put_checked;
 use flow_graph::{Constraint, FlowGraph, Link, Site};
 use lattice_core::{Deref, Entry, Lattice, Lattices, Level, Name, Pair, Sign};
+use path_checker::report_checks::{judge_report, put_checked};
 use qual_base::{Elem, FuncId, LatticeNo, Numbered, Owner, SiteId, Span, TokenId, UnitNo, VarId};
 use std::alloc::Global;
 use std::process::Abort;
