@@ -4,7 +4,8 @@ use crate::answers::{Kind, answer};
 use crate::mixes::{mix_text, typed_text};
 use crate::preludes::prelude_text;
 use qual_base::NoMemory;
-use std::alloc::{AllocError, Global};
+use row_files::row_text;
+use std::alloc::Global;
 
 /// What the rows below a line with `@` are; nothing where it says nothing of them.
 fn kind_of(line: &str) -> Option<Kind> {
@@ -25,44 +26,9 @@ fn kind_of(line: &str) -> Option<Kind> {
     }
 }
 
-/// Adds a text so many times.
-fn put_times(source: &mut String, text: &str, count: u32) -> Result<(), AllocError> {
-    for _ in 0..count {
-        source.push_str(text)?;
-    }
-    Ok(())
-}
-
-/// Adds what a piece between backquotes means.
-fn put_piece(source: &mut String, piece: &str) -> Result<(), AllocError> {
-    match piece.as_bytes() {
-        b"n" => source.push('\n'),
-        b"t" => source.push('\t'),
-        _ => match piece.split_once(' ') {
-            Some((count, text)) => put_times(source, text, count.parse::<u32>().unwrap_or(0)),
-            None => Ok(()),
-        },
-    }
-}
-
-/// The source that a row is.
-fn source_of(alloc: Global, row: &str) -> Result<String, AllocError> {
-    let mut source = String::new(alloc);
-    let mut is_inside = false;
-    for piece in row.split('`') {
-        if is_inside {
-            put_piece(&mut source, piece)?;
-        } else {
-            source.push_str(piece)?;
-        }
-        is_inside = !is_inside;
-    }
-    Ok(source)
-}
-
 /// What a row answers.
 fn row_answer(alloc: Global, kind: Kind, row: &str) -> Result<String, NoMemory> {
-    let source = source_of(alloc, row)?;
+    let source = row_text(alloc, row)?;
     match kind {
         Kind::Mixes => mix_text(alloc, source.as_bytes()),
         Kind::Typed => typed_text(alloc, source.as_bytes()),

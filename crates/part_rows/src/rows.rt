@@ -7,7 +7,8 @@ use crate::paths::paths_text;
 use crate::tables::{table_text, words_text};
 use crate::words::halves;
 use qual_base::NoMemory;
-use std::alloc::{AllocError, Global};
+use row_files::row_text;
+use std::alloc::Global;
 
 /// Which constraints stand between two skeletons.
 #[derive(Clone, Copy, PartialEq, Eq)]
@@ -57,40 +58,9 @@ fn kind_of(line: &str) -> Option<Kind> {
     }
 }
 
-/// Adds a text so many times.
-fn put_times(whole: &mut String, text: &str, count: u32) -> Result<(), AllocError> {
-    for _ in 0..count {
-        whole.push_str(text)?;
-    }
-    Ok(())
-}
-
-/// Adds what a piece between backquotes means.
-fn put_piece(whole: &mut String, piece: &str) -> Result<(), AllocError> {
-    match piece.split_once(' ') {
-        Some((count, text)) => put_times(whole, text, count.parse::<u32>().unwrap_or(0)),
-        None => Ok(()),
-    }
-}
-
-/// The words that a row stands for.
-fn words_of(alloc: Global, row: &str) -> Result<String, AllocError> {
-    let mut whole = String::new(alloc);
-    let mut is_inside = false;
-    for piece in row.split('`') {
-        if is_inside {
-            put_piece(&mut whole, piece)?;
-        } else {
-            whole.push_str(piece)?;
-        }
-        is_inside = !is_inside;
-    }
-    Ok(whole)
-}
-
 /// What a row answers.
 fn row_answer(alloc: Global, kind: Kind, row: &str) -> Result<String, NoMemory> {
-    let words = words_of(alloc, row)?;
+    let words = row_text(alloc, row)?;
     let (front, questions) = halves(words.as_str(), '?');
     match kind {
         Kind::Lattices => lattice_text(alloc, front, questions),

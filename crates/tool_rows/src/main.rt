@@ -16,29 +16,15 @@ mod calls;
 mod lines;
 
 use calls::answers;
-use outside::{HostFiles, HostSink, Sink, take_all};
+use outside::{HostFiles, HostSink, take_all};
+use row_files::{MOST_BYTES, put_all};
 use std::process::ExitCode;
-
-/// The most bytes of the file of calls.
-const LIMIT: usize = 16_777_216;
-
-/// Writes all of a text, or a front of it where a write fails.
-fn put_all<O: Sink>(out: &mut O, text: &[u8]) -> bool {
-    let mut sent = 0;
-    while sent < text.len() {
-        match out.put(&text[sent..]) {
-            Ok(count) => sent += count,
-            Err(_) => return false,
-        }
-    }
-    true
-}
 
 /// Prints what the calls of the file answer.
 fn main(rt: HostRuntime) -> ExitCode {
     let alloc = rt.alloc();
     let mut files = HostFiles::new(&rt);
-    let Ok(bytes) = take_all(alloc, &mut files, "calls.txt", LIMIT) else {
+    let Ok(bytes) = take_all(alloc, &mut files, "calls.txt", MOST_BYTES) else {
         return ExitCode::from(1);
     };
     let Ok(text) = answers(alloc, &bytes) else {

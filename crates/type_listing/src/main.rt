@@ -20,24 +20,10 @@ mod listing;
 mod text;
 
 use listing::list;
-use outside::{HostFiles, HostSink, Sink, take_all};
+use outside::{HostFiles, HostSink, take_all};
+use row_files::{MOST_BYTES, put_all};
 use std::env;
 use std::process::ExitCode;
-
-/// The most bytes of a file.
-const LIMIT: usize = 16_777_216;
-
-/// Writes all of a text, or a front of it where a write fails.
-fn put_all<O: Sink>(out: &mut O, text: &[u8]) -> bool {
-    let mut sent = 0;
-    while sent < text.len() {
-        match out.put(&text[sent..]) {
-            Ok(count) => sent += count,
-            Err(_) => return false,
-        }
-    }
-    true
-}
 
 /// Lists the source that the second word names, over the lattices of the first. Its status is 1 where a file is not read, 2
 /// where it is refused, 3 where a write fails.
@@ -55,10 +41,10 @@ fn main(rt: HostRuntime) -> ExitCode {
         return ExitCode::from(1);
     };
     let mut files = HostFiles::new(&rt);
-    let Ok(lattice) = take_all(alloc, &mut files, lattice_name, LIMIT) else {
+    let Ok(lattice) = take_all(alloc, &mut files, lattice_name, MOST_BYTES) else {
         return ExitCode::from(1);
     };
-    let Ok(source) = take_all(alloc, &mut files, source_name, LIMIT) else {
+    let Ok(source) = take_all(alloc, &mut files, source_name, MOST_BYTES) else {
         return ExitCode::from(1);
     };
     let Ok(text) = list(alloc, &lattice, source_name, &source) else {

@@ -1,5 +1,5 @@
 use Rattle.std.proofs.Common.{◌≤◌, ◌-◌, length}
-use Rattle.parser_rows.proofs.put_all.Given as goal
+use Rattle.row_files.proofs.writing.put_all.Given as goal
 
 abbrev pub invariant-loop-sent : goal.invariant-loop-sent
 invariant-loop-sent g l = l.sent ≤ length l.text
