@@ -24,6 +24,7 @@ come_out_from items ends at left token (suc more) =
     (come_out_from items ends (at + (ends token - at)) (drop (ends token - at) left) (suc token) more)
     ∙ take-append-drop (ends token - at) left
 
+-- the comments of an annotated source, taken out, leave the source
 pub come_out : CommentsComeOut
 come_out scene lexed listings =
     come_out_from (λ token. items_at scene lexed.unit token listings) (behind lexed) 0 lexed.bytes 0

@@ -72,6 +72,7 @@ past_here (u ∷ us) zero number d within other =
     (ne_eqb u.tokens.now.unit number other)
 past_here (u ∷ us) (suc n) number d within other = past_here us n number d (omega (arith, within)) other
 
+-- the unit at a place is found by its number among those from there on
 pub unit_here : (units : List LentUnit) (n number : ℕ) (u : LentUnit) → n < length units → u ≡ get_or units n u
     → u.tokens.now.unit ≡ number → unit_in (units_of (drop n units)) number ≡ Some (unit_of u)
 unit_here units n number u within is same =

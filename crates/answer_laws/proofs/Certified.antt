@@ -23,6 +23,7 @@ are_orders (view ∷ lattices) are zero order there =
     let same : view.order ≡ order = cc in subst IsOrder same (are 0 view refl).ordered
 are_orders (view ∷ lattices) are (suc n) order there = are_orders lattices (λ m. are (suc m)) n order there
 
+-- what is read before the sources is the same where the certificate is checked
 before_on : (names : Names) (file : List ℕ) (inputs : Inputs) (text : List ℕ) (lattices : List LatticeView)
     (before : List UnitRead)
     (marks : List IndexMark) → AreBefore (of_files names Certify) inputs lattices before marks

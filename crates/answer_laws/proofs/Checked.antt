@@ -76,6 +76,7 @@ tokens_free law named inputs it =
 abbrev with_saved : Names → List ℕ → FileNames
 with_saved names report = of_files names (Check report)
 
+-- what is read before the sources is the same where the report is checked
 before_on : (names : Names) (question : Question) (report : List ℕ) (inputs : Inputs) (text : List ℕ)
     (lattices : List LatticeView) (before : List UnitRead)
     (marks : List IndexMark) → AreBefore (of_files names question) inputs lattices before marks

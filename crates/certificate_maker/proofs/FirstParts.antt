@@ -44,6 +44,7 @@ pub record AreFirst (sys : System) (orders : List Order) (count : ℕ) (parts : 
       IsPart sys order part × IsWritten sys n (certificate_of part)
   pub accepted : (n : ℕ) (order : Order) → n < count → slice_get orders n ≡ Some order → IsAcceptedIn sys n order
 
+-- of no variables, the first sets are none
 pub none_first : (sys : System) (orders : List Order) → AreFirst sys orders 0 []
 none_first sys orders = record {
   count_is = refl;

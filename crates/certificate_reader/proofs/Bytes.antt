@@ -54,6 +54,7 @@ two_words a b p q =
     slice_split_at (λ c. c == 32) a 32 b (all_lack 32 a p) refl
     ∙ ap (λ (ws : List (List ℕ)). a ∷ ws) (slice_split_none (λ c. c == 32) b (all_lack 32 b q))
 
+-- three words with a blank between each two are those words
 pub three_words : (a b c : List ℕ) → has 32 a ≡ false → has 32 b ≡ false → has 32 c ≡ false
     → words (a ++ 32 ∷ (b ++ 32 ∷ c)) ≡ a ∷ b ∷ c ∷ []
 three_words a b c p q r =
@@ -88,6 +89,7 @@ lines_of-parts text part rest is =
     ap lines_in is ∙ ap (λ (ps : List (List ℕ)). lines_in (part ∷ ps)) more.2 ∙ two_parts part more.0 more.1
     ∙ ap (λ (ps : List (List ℕ)). line_kind part ∷ lines_in ps) (sym more.2)
 
+-- the first line of a text is the text up to its line feed
 pub line_first : (x rest : List ℕ) → has 10 x ≡ false → lines_of (line x ++ rest) ≡ line_kind x ∷ lines_of rest
 line_first x rest free =
     ap lines_of (append_assoc x (10 ∷ []) rest)

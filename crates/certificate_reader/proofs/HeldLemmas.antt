@@ -68,6 +68,7 @@ sets_more (x ∷ sets) it =
     ap (λ (t : List ℕ). set_text x ++ t) (sets_more sets it)
     ∙ sym (append_assoc (set_text x) (sets_text sets) (set_text it))
 
+-- one more pair adds its text behind that of the others
 pairs_more : (pairs : List (ℕ × ℕ)) (pair : ℕ × ℕ)
     → pairs_text (pairs ++ pair ∷ []) ≡ pairs_text pairs ++ pair_text pair
 pairs_more [] pair = append-nil (pair_text pair)

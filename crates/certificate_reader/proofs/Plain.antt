@@ -130,6 +130,7 @@ sets_fit_of all part (x ∷ names) last fits rise later = by_test (slice_index p
     by_test true none over behind = over
     by_test false some over behind = (later x (inl refl), fits x.var some, behind)
 
+-- pairs that rise, each behind the last that was read, fit behind it
 pairs_fit_of : (ps : List (ℕ × ℕ)) (last : Option (ℕ × ℕ)) → Rises Earlier ps
     → ((p : ℕ × ℕ) → Among p ps → pair_behind last p ≡ true) → PairsFit last ps
 pairs_fit_of [] last rise later = tt

@@ -31,6 +31,7 @@ lattice_bytes number = codes "lattice " ++ decimal number
 two_joined : (a b : List ℕ) → a ++ 32 ∷ [] ++ b ≡ a ++ 32 ∷ b
 two_joined a b = append_assoc a (32 ∷ []) b
 
+-- three words joined one by one are those words with blanks between
 three_joined : (a b c : List ℕ) → a ++ 32 ∷ [] ++ b ++ 32 ∷ [] ++ c ≡ a ++ 32 ∷ (b ++ 32 ∷ c)
 three_joined a b c =
     append_assoc (a ++ 32 ∷ [] ++ b) (32 ∷ []) c ∙ append_assoc (a ++ 32 ∷ []) b (32 ∷ c)
@@ -72,6 +73,7 @@ letter_lacks : (c : ℕ) (b : Bool) → c < 48 → has c (cond b (codes "a") (co
 letter_lacks c true low = grind (arith, low)
 letter_lacks c false low = grind (arith, low)
 
+-- a name has no byte below the digits
 name_lacks : (c name : ℕ) → c < 48 → has c (name_text name) ≡ false
 name_lacks c name low =
     lacks_append c (decimal (name / 2)) (letter name) (decimal_lacks c (name / 2) low)
@@ -339,11 +341,13 @@ pairs_spell bytes (Some rest) is small =
     (joined rest (words rest) refl) small
 pairs_spell bytes None is small = tt
 
+-- a line that begins as a set spells what behind its front is read as
 sets_spell : (bytes : List ℕ) (o : Option (List ℕ)) → behind (codes "  set ") bytes ≡ o → Spells (by_set o bytes) bytes
 sets_spell bytes (Some rest) is small =
     set_spells bytes rest (words rest) (behind_is (codes "  set ") bytes rest is) (joined rest (words rest) refl) small
 sets_spell bytes None is small = pairs_spell bytes (behind (codes "  pair ") bytes) refl small
 
+-- a line that begins as a lattice spells what behind its front is read as
 lattices_spell : (bytes : List ℕ) (o : Option (List ℕ)) → behind (codes "lattice ") bytes ≡ o
     → Spells (by_lattice o bytes) bytes
 lattices_spell bytes (Some numeral) is small =

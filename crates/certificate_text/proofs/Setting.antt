@@ -8,11 +8,13 @@ use Rattle.certificate_text.specs.declared.putting.SetLine.{SetLine}
 use Rattle.certificate_text.specs.Text.{set_of, sets_of, set_text, sets_text}
 use Rattle.certificate_text.proofs.EndLemmas.{drop_there}
 
+-- the text of joined lists of sets is the joined texts
 sets_text-append : (xs ys : List SetLine) → sets_text (xs ++ ys) ≡ sets_text xs ++ sets_text ys
 sets_text-append [] ys = refl
 sets_text-append (x ∷ xs) ys =
     ap (λ t. set_text x ++ t) (sets_text-append xs ys) ∙ sym (append_assoc (set_text x) (sets_text xs) (sets_text ys))
 
+-- the sets of joined lists of names are the joined sets
 sets_of-append : (part : Part) (xs ys : List Named) → sets_of part (xs ++ ys) ≡ sets_of part xs ++ sets_of part ys
 sets_of-append part [] ys = refl
 sets_of-append part (x ∷ xs) ys =

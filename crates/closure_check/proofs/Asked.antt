@@ -126,6 +126,7 @@ pub by_pairs : (given : Claim) (rule one : CertRule) → rule ≡ one → (AsksP
 by_pairs given rule one is on all =
     subst (λ (r : CertRule). IsObeyed given r) (sym is) (on (subst (λ (r : CertRule). AsksPairs given r) is all))
 
+-- the rule for calls is obeyed where its question of constraints and that of pairs are both answered
 pub by_both : (given : Claim) (rule : CertRule) → rule ≡ A7 → AsksLinks given rule → AsksPairs given rule
     → IsObeyed given rule
 by_both given rule is links pairs = subst (λ (r : CertRule). IsObeyed given r) (sym is)

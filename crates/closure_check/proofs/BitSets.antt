@@ -9,6 +9,7 @@ use Rattle.lattice_core.proofs.Bits.{and_both}
 use Rattle.closure_check.specs.Parts.{has, is_in}
 use Rattle.closure_check.specs.Checking.{IsSubset}
 
+-- the bit of a number that a set has is one
 pub bit_of : (set e : ℕ) → has set e ≡ true → bit_at set e ≡ 1
 bit_of set e h =
     elim (eqb_tells (bit_at set e) 1)
@@ -27,6 +28,7 @@ least_is x y one two on = elim (eqb_tells x 1) [
   | inr not ↦ let none : x ≡ 0 = omega (arith, one, not.1) in omega (arith, none)
 ]
 
+-- what a subset and its set have in common is the subset
 pub of_subset : (one other : ℕ) → IsSubset one other → bit_and one other ≡ one
 of_subset one other within =
     same_from_bits (bit_and one other) one (λ e. bit_at_and one other e

@@ -61,6 +61,7 @@ within [] (n ∷ ns) h = absurd h
 within (g ∷ gs) [] h = absurd h
 within (g ∷ gs) (n ∷ ns) h = All-cons (λ n. n ≤ most_index) n ns h.0.within (within gs ns h.1)
 
+-- a text that is split has at least one part
 some_parts : (bytes : List ℕ) → slice_split is_low_line bytes ≢ []
 some_parts bytes is =
     let all = flat bytes in
@@ -138,6 +139,7 @@ says_of bytes rest numbers is h =
     let same : parts.0 ≡ rest = let begun = parts.1 in cc in
     subst (λ (behind : List ℕ). SayAll behind numbers) same parts.2
 
+-- the numbers that an index word says differ from each other
 pub says_different : (bytes rest ours theirs : List ℕ) → bytes ≡ 36 ∷ 95 ∷ rest → SayAll rest ours
     → IsIndexWord bytes theirs →
     AreDifferent ours

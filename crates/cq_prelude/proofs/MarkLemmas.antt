@@ -33,6 +33,7 @@ last : (token at : ℕ) → token < at + 1 → (token < at) ⊎ (token ≡ at)
 last token at lt =
     ⊎_elim (λ (below : token < at). inl below) (λ (le : at ≤ token). inr (omega arith)) (cases_lt token at)
 
+-- marks below a token are below the next
 below_more : (marks : List IndexMark) (at : ℕ) → All (λ it. it.token < at) marks → All (λ it. it.token < at + 1) marks
 below_more marks at h =
     All-weaker (λ (it : IndexMark). it.token < at) (λ (it : IndexMark). it.token < at + 1)

@@ -52,6 +52,7 @@ spells wide words bytes lexed h =
     let spelled = rw (h.unit, h.dialect, h.bytes_are) at h.marks.spelled in
     (spelled.0, spelled_by 0 wide h.marks.words words h.marks.mean bytes lexed.tokens spelled.0 lexed.marks spelled.1)
 
+-- a lexed text from its parts
 abbrev made : ℕ → Bool → List ℕ → List Token → List Mark → Option (ℕ × ℕ) → Option (ℕ × ℕ) → Option (ℕ × ℕ) → Lexed
 made unit wide bytes tokens marks constant volatile restrict =
     record {
@@ -124,6 +125,7 @@ unit_fault wide words bytes it (BadIndex spot) parses h = (it, h.0, parses, h.1,
 unit_fault wide words bytes it (Shape fault spot) parses h = (it, parses, h.0, h.1.first, h.1.place)
 unit_fault wide words bytes it NoMemory parses h = tt
 
+-- no fault is the first of none
 none_first : (fault : Fault) (all : List Fault) → all ≡ [] → rules.IsFirst fault all → ⊥
 none_first fault all is h =
     let has = subst (λ (faults : List Fault). Contains faults fault) is h.there in
@@ -165,6 +167,7 @@ pub memory_only : (wide : Bool) (words : Meanings) (bytes : List ℕ) (it : Unit
 memory_only wide words bytes it marks read fault same h fails =
     unit_only it fault h.rules h.shaped (subst (λ (unit : UnitRead). IsFaultIn unit fault) same fails)
 
+-- a text that is not read though it is a prelude was refused for want of memory
 pub not_parsed : (wide : Bool) (words : Meanings) (bytes : List ℕ) (it : UnitRead) (marks : List IndexMark)
     (lexed : Lexed) (fault : ReadError) →
     lexed ≡ it.lexed

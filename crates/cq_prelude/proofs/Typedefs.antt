@@ -6,6 +6,7 @@ use Rattle.c_tree.specs.Specifiers.{storage_words}
 use Rattle.c_units.specs.Scoping.{has_typedef_word}
 use Rattle.cq_prelude.specs.Words.{is_typedef_word}
 
+-- one more word makes a list a typedef if it is `typedef` or the list was one
 pub typedef_more : (w : SpecWord) (ws : SpecWords) → has_typedef_word
     (storage_words (more_words w ws)) ≡ (if is_typedef_word w then true else has_typedef_word (storage_words ws))
 typedef_more (storage word) ws = refl

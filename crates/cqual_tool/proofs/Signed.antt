@@ -59,6 +59,7 @@ accepted_one sys lattices got is accepted =
     only zero order there = subst (λ (o : Order). IsAcceptedIn sys 0 o) (order_is there) accepted
     only (suc n) order there = absurd cc
 
+-- what is accepted in all lattices is accepted in the first
 pub one_accepted : (sys : System) (lattices : List LatticeView) (got : LatticeView) → slice_get lattices 0 ≡ Some got →
     IsAccepted sys (orders_of lattices) → IsAcceptedIn sys 0 got.order
 one_accepted sys (l ∷ lattices) got there accepted =

@@ -79,6 +79,7 @@ pub at_saved : (named : FileNames) (o : Option (List ℕ)) → saved_in named �
 at_saved named o is P there =
     subst (λ (name : Option (List ℕ)). P (λ inputs. one_file name inputs.saved)) (sym is) there
 
+-- readings of a prelude and then of the sources are those of all files
 behind_prelude : (named : FileNames) (o : Option (List ℕ)) → named.prelude ≡ o
     → (inputs : Inputs) (these : List Reading)
     → ReadsAs (from_prelude named inputs) these

@@ -34,6 +34,7 @@ end_fault h = or_else (settle_fault all_rules false h)
 abbrev pub end_of : Walk → List Text → Held
 end_of w words = (fold (walked all_rules []) w words).held
 
+-- the claim of a walk and the words that are left: what it held and its first fault come to the task
 abbrev pub Claim : Walk → List Text → Option Task → Type 0
 Claim w words task =
     Judged (or_else (walk_fault shape [] w words) (end_fault (end_of w words)))
@@ -101,6 +102,7 @@ positional_is : (h : Held) → step_fault shape 1 h value ≡ settle_fault all_r
 positional_is h =
     ap (λ b. cond b [] (settle_fault all_rules false h)) (and_false (is_pending (rule_for Source) h.pending))
 
+-- a value is held as one more source
 source_held : (h : Held) (waiting : Waiting) (t : Bool) (word : Text)
     → after_step all_rules word (walk_at h waiting t) h value
     ≡ walk_at (pushed (codes "source") word (settled all_rules h)) positional t

@@ -83,6 +83,7 @@ abbrev opened : Pend → Option Key
 opened (Wants key) = Some key
 opened _ = None
 
+-- what is claimed of a walk over these words, wherever it begins
 abbrev Walks : List Text → Type 0
 Walks words = (ps : List Piece) (pend : Pend) → OnceEach ps
     → Claim (walk_at (held_at ps pend) (waits_for pend) false) words

@@ -23,6 +23,7 @@ pub attr_words : (attrs : List Attr) → spec_words_from (map (λ a. rust_words.
 attr_words [] = refl
 attr_words (attr ∷ attrs) = ap (λ (ws : SpecWords). more_words (attribute attr) ws) (attr_words attrs)
 
+-- the parameters as they are held give the parameters of the definition
 pub same_params : (ps : List Param) → params_from (map item_of ps) ≡ lists.params_from ps
 same_params [] = refl
 same_params (p ∷ ps) =

@@ -62,6 +62,7 @@ settled_pot level (above s l) e =
     by_level true same = refl
     by_level false same = same
 
+-- the height of a row is at least that of its last operand with a level for each operator that waits
 pot_least : (s : Stack) (h : ℕ) → how_many s + h ≤ pot s h
 pot_least bottom h = omega arith
 pot_least (above s l) h =

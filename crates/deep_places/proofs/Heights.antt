@@ -129,6 +129,7 @@ low_params_of (some_declr d) opening ps dots closing =
     either (is_named d) (params d opening ps dots closing) (abs_params
     (some_declr d) opening ps dots closing) (max (declr_height d) (params_height ps) + 1) (omega arith) (omega arith)
 
+-- a declarator in parentheses is at most one level higher than what stands in it
 pub low_paren : (opening : ℕ) (attrs : List Attr) (d : Declr) (closing : ℕ)
     → declr_height (with_paren opening attrs d closing) ≤
     max (attrs_height attrs) (declr_height d) + 1

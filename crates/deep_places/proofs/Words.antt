@@ -115,6 +115,7 @@ b_assert_at room s ts =
     (λ group b10 e11 l12. bound_bind token_levels _ (0) _ _ _ _ _ _ (bound_token is_semicolon _ _ _ _)
     (λ semi b13 e14 l15. bound_ends _ _ _ _ _ _ _ (omega arith))))
 
+-- a bound with the levels of a token holds without levels
 fewer_levels : {A : Type 0} (room : ℕ) (ts : List Lexeme) (r : Read A) → BoundAt token_levels 0 room 0 ts r
     → BoundAt no_levels 0
     room 0 ts r

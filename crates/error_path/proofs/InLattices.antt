@@ -7,6 +7,7 @@ use Rattle.error_path.specs.Shown.{InLattice}
 view_there : {x y : LatticeView} → Some x ≡ Some y → x ≡ y
 view_there e = cc
 
+-- what holds of the order of a lattice holds in that lattice of the list
 pub in_lattice : (lattices : List LatticeView) (n : ℕ) (view : LatticeView) → slice_get lattices n ≡ Some view
     → (Is : Order → Type 0) → Is view.order → InLattice lattices n Is
 in_lattice lattices n view there Is own other is =

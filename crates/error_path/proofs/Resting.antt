@@ -29,6 +29,7 @@ pub leads_early : (rows : List Summary) (n u v : ℕ) → Leads (take n rows) u 
 leads_early rows n u v (inl same) = inl same
 leads_early rows n u v (inr pair) = inr (has_early rows n u v pair)
 
+-- a reason that holds by the first summaries holds by all
 pub ends_early : (sys : System) (lattice : ℕ) (rows : List Summary) (n : ℕ) (why : Reason) (v : ℕ)
     → EndsAt sys lattice (take n rows) why v → EndsAt sys lattice rows why v
 ends_early sys lattice rows n (Last edge before) v h = h

@@ -254,6 +254,7 @@ leads_in sys lattice origin rows search whole good begun visited =
 pub unmarked : (marks : PhaseMarks) (p : Phase) (v : ℕ) → mark_of marks p v ≡ false → mark_of marks p v ≡ true → ⊥
 unmarked marks p v none mark = let no : false ≡ true = sym none ∙ mark in cc
 
+-- nothing stands at a place of an empty queue
 pub nothing_at : (queue : List Reached) (n : ℕ) (r : Reached) → queue ≡ [] → slice_get queue n ≡ Some r → ⊥
 nothing_at queue n r none is =
     let none_at : slice_get [] n ≡ Some r = subst (λ (xs : List Reached). slice_get xs n ≡ Some r) none is in
@@ -395,6 +396,7 @@ visited_here sys lattice rows old new place p u g s done r is n =
     subst Of (sym s.2 ∙ ap (λ (x : Reached). x.phase) same)
     (subst At (sym s.3 ∙ ap (λ (x : Reached). x.at) same) (done n))
 
+-- a search that grows has a queue that is at least as long
 pub grows_length : (old new : Search) → Grows old new → length old.queue.items ≤ length new.queue.items
 grows_length old new g =
     let size = length-append old.queue.items g.more in

@@ -205,6 +205,7 @@ module _ (u : Spelling) (s : Names) where
         (ends (stmt stmts.Quiet ++ expr_tape false e ++ form forms.Control ++ assocs_tape xs)
         (ops.Form (forms.Generic keyword (assoc_count xs))) keyword refl (λ st behind. refl))
 
+-- the law: wherever the tape of an expression is a part of a tape, the expression stands there
 pub expressions_stand : ShapesAreLeft → ExpressionsStand
 expressions_stand left u s st before called e behind =
     within u s before (expr_tape called e) behind st (expression_at u s e)

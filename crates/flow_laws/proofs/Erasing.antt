@@ -44,6 +44,7 @@ last_same : (sys : System) (steps : List PathStep) (f : Seen → Option ℕ)
     → of_step sys (last_of (without_lines steps)) f ≡ of_step sys (last_of steps) f
 last_same sys steps f = ap (λ o. of_step sys o f) (last_map without_line steps) ∙ step_same sys (last_of steps) f
 
+-- a path without its lines spans what it spans with them
 pub span_same : (sys : System) (steps : List PathStep)
     → span_of sys (Some (without_lines steps)) ≡ span_of sys (Some steps)
 span_same sys steps =

@@ -22,6 +22,7 @@ use Rattle.flow_laws.proofs.Parsing.{edge_there, Stops}
 use Rattle.flow_laws.proofs.Forming.{settled_is, MainOn, main_builds, main_on, Known, all_known}
 use Rattle.flow_laws.proofs.Shown.{form_holds, shown_holds}
 
+-- sub-paths that all have steps are those of the definition
 pub subs_are_sub_paths : SubsAreSubPaths
 subs_are_sub_paths sys lattice _ NoSubs = NoPaths
 subs_are_sub_paths sys lattice _ (Next subs u v steps before sub) =

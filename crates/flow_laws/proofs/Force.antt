@@ -221,6 +221,7 @@ unfolding paths_refute leads_force
 refuted_at sys lattice order owned ordered e v n b (inl p) stands over = refl
 refuted_at sys lattice order owned ordered e v n b (inr c) stands over = refl
 
+-- the law: a system with an exceeded bound is not accepted
 pub exceeded_is_refuted : ExceededIsRefuted
 exceeded_is_refuted sys lattice order n over accepted =
     let met = accepted over.depth in

@@ -249,6 +249,7 @@ taken_last bound (Some (Take n line)) e = (line, let same : n ≡ bound = cc in 
 taken_last bound (Some (SubStep n line)) e = absurd cc
 taken_last bound None e = absurd cc
 
+-- sub-paths without lines have as many steps
 steps_same : (subs : List (List PathStep)) → steps_in (map without_lines subs) ≡ steps_in subs
 steps_same [] = refl
 steps_same (s ∷ subs) =

@@ -18,6 +18,7 @@ only_one : (x n : ℕ) → Contains (x ∷ []) n → x ≡ n
 only_one x n (zero, within, is) = is
 only_one x n (suc i, within, is) = absurd (omega (arith, within))
 
+-- a list contains what stands at a place of it
 contains_at : (numbers : List ℕ) (i n : ℕ) → slice_get numbers i ≡ Some n → Contains numbers n
 contains_at numbers i n is =
     let within = slice_get_within numbers i n is in

@@ -9,6 +9,7 @@ use Rattle.qual_types.specs.Skel.{Skels, no_skels, more_skels}
 use Rattle.flow_rules.specs.Lists.{tie, tied, past}
 use Rattle.flow_rules.specs.Adding.{marked, with, Stops}
 
+-- the constraints of joined links are the joined constraints
 pub marked_append : (m : ℕ) (s : Span) (xs ys : List Link) → marked m s (xs ++ ys) ≡ marked m s xs ++ marked m s ys
 marked_append m s [] ys = refl
 marked_append m s (x ∷ xs) ys =
@@ -24,6 +25,7 @@ take_front n [] ys lt = absurd (omega (arith, lt))
 take_front zero (x ∷ xs) ys lt = refl
 take_front (suc n) (x ∷ xs) ys lt = ap (λ (l : List Constraint). x ∷ l) (take_front n xs ys (omega (arith, lt)))
 
+-- a front that reaches into the second of two lists has all of the first
 take_back : (n : ℕ) (xs ys : List Constraint) → take (length xs + n) (xs ++ ys) ≡ xs ++ take n ys
 take_back n [] ys = let e : 0 + n ≡ n = omega arith in ap (λ k. take k ys) e
 take_back n (x ∷ xs) ys =
@@ -50,6 +52,7 @@ stop_back a b c f xs ys e h = record {
   cause = h.cause;
 }
 
+-- links that tie joined lists to one variable are the joined links
 pub tied_append : (xs ys : List ℕ) (v : ℕ) → tied (xs ++ ys) v ≡ tied xs v ++ tied ys v
 tied_append [] ys v = refl
 tied_append (x ∷ xs) ys v =

@@ -39,11 +39,13 @@ extra_turns : (f : Bool) (ps : Skels) (e : Option ℕ) (qs : Skels) (g : Option 
 extra_turns true ps e qs g = refl
 extra_turns false ps e qs g = refl
 
+-- two skeletons of two shapes that are made equal give the same links turned round
 equal_apart : (f : Bool) (a b : Skel) → equal_uneven Flow f a b ≡ equal_uneven Flow (not f) b a
 equal_apart f a b =
     join_same (both Flow f (root a) (root b)) (collapsed Flow f a b) (both Flow (not f) (root b) (root a))
     (collapsed Flow (not f) b a) (both_turns f (root a) (root b)) (collapsed_turns f a b)
 
+-- a flow between skeletons of two shapes gives the same links turned round
 flow_apart : (f : Bool) (a b : Skel) → flow_uneven Flow f a b ≡ flow_uneven Flow (not f) b a
 flow_apart f a b =
     join_same (pair Flow f (root a) (root b)) (collapsed Flow f a b) (pair Flow (not f) (root b) (root a))

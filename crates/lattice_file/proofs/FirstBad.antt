@@ -38,12 +38,14 @@ slice_join bytes a b c le more within =
     ap (λ (rest : List ℕ). take (b - a) (drop a bytes) ++ take (c - b) rest) shift
     ∙ sym (take-add (b - a) (c - b) (drop a bytes)) ∙ ap (λ (n : ℕ). take n (drop a bytes)) (omega (arith, le, more))
 
+-- a front and the bytes behind it are the longer front
 pub take_front : (bytes tail : List ℕ) (a b : ℕ) → a ≤ b → b ≤ length bytes
     → take a bytes ++ (slice_range bytes a b ++ tail) ≡ take b bytes ++ tail
 take_front bytes tail a b le within =
     sym (append_assoc (take a bytes) (slice_range bytes a b) tail)
     ∙ ap (λ (front : List ℕ). front ++ tail) (take_join bytes a b le within)
 
+-- two ranges that meet are one range
 pub slice_front : (bytes tail : List ℕ) (a b c : ℕ) → a ≤ b → b ≤ c → c ≤ length bytes
     → slice_range bytes a b ++ (slice_range bytes b c ++ tail) ≡ slice_range bytes a c ++ tail
 slice_front bytes tail a b c le more within =
@@ -74,6 +76,7 @@ slice_first bytes tail a b le e =
 slice_length : (bytes : List ℕ) (a b : ℕ) → a < b → b ≤ length bytes → 0 < length (slice_range bytes a b)
 slice_length bytes a b less within = grind (arith, common_steps)
 
+-- a range of at least one byte begins with the byte where it starts
 pub slice_long : (bytes tail : List ℕ) (a b : ℕ) → a < b → b ≤ length bytes
     → first (slice_range bytes a b ++ tail) ≡ first (drop a bytes)
 slice_long bytes tail a b less within =
@@ -438,6 +441,7 @@ end_reads wide bytes at start standing blocks stands le over gap outside is =
     subst (λ (text : List ℕ). IsLatticeText wide blocks text) whole
     (stands.reads (slice_range bytes at start ++ []) blocks (inl (slice_first bytes [] at start le likes)) goes)
 
+-- a fault of the lexeme behind a gap is the first fault of the text
 pub fault_first : (wide : Bool) (bytes : List ℕ) (at start : ℕ) (reader : Reader) (fault : TextFault)
     → Stands wide bytes at (standing_of reader) → at ≤ start → start < length bytes → GapGoes bytes at start
     → begins_lexeme (drop start bytes) ≡ true →

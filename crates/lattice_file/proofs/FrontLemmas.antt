@@ -34,6 +34,7 @@ front_as p q word count same f = record {
     by (inl e) = inl e
     by (inr (more, e)) = inr (more, sym (same (take count word ++ more)) ∙ e)
 
+-- a longer front of a word is a shorter one with the bytes between
 take_longer : (word more : List ℕ) (n k : ℕ) → n ≤ k
     → take (k + 1) word ++ more ≡ take (n + 1) word ++ (take (k - n) (drop (n + 1) word) ++ more)
 take_longer word more n k le =
@@ -126,6 +127,7 @@ pub dollar_alone : (x : ℕ) → nat_eq x 36 ≡ true → IsFront begins_with_do
 dollar_alone x h =
     record { within = omega arith; begins = inr (97 ∷ [], rw h refl); ends = λ less more e. omega (arith, less) }
 
+-- of `$` before no letter, `$` alone is the front
 pub dollar_first : (x c : ℕ) (rest : List ℕ) → nat_eq x 36 ≡ true → is_letter c ≡ false
     → IsFront begins_with_dollar (x ∷ c ∷ rest) 1
 dollar_first x c rest h l = record {
@@ -182,6 +184,7 @@ map_test : {A B : Type 0} (f : A → B) (one : Option A) → is_some one ≡ is_
 map_test f (Some x) = refl
 map_test f None = refl
 
+-- the front of a word that means one thing is that of being this word
 pub front_only : {A : Type 0} (word other : List ℕ) (to : A) (count : ℕ) → IsFront (λ w. bytes_eq w other) word count
     → IsFront (λ w. is_some (only_if (bytes_eq w other) to)) word count
 front_only word other to count f =
@@ -224,12 +227,14 @@ front_stage standing stage test word count e same f =
     front_as test (may_come standing) word count
     (λ w. subst (λ (s : Stage). test w ≡ is_some (next_by_word s standing.given standing.draft w)) (sym e) (same w)) f
 
+-- where an attribute may come, a front is one of a name of an attribute
 pub front_attribute : (standing : Standing) (word : List ℕ) (count : ℕ) → standing.stage ≡ stages.Attribute
     → IsFront (λ w. is_some (attribute_named standing.given w)) word count → IsFront (may_come standing) word count
 front_attribute standing word count e f =
     front_stage standing stages.Attribute (λ w. is_some (attribute_named standing.given w)) word count e (λ w. map_test
     (λ attribute. At (stages.Equals attribute) standing.given standing.draft) (attribute_named standing.given w)) f
 
+-- where a value may come, a front is one of a value of this attribute
 pub front_value : (standing : Standing) (attribute : Attribute) (word : List ℕ) (count : ℕ)
     → standing.stage ≡ stages.Value attribute
     → IsFront (λ w. is_some (with_value attribute standing.given w)) word count → IsFront (may_come standing) word count
@@ -237,6 +242,7 @@ front_value standing attribute word count e f =
     front_stage standing (stages.Value attribute) (λ w. is_some (with_value attribute standing.given w)) word count e
     (λ w. map_test (λ then. At stages.Attributed then standing.draft) (with_value attribute standing.given w)) f
 
+-- where the attribute of a block may come, a front is one of such a name
 pub front_flow_name : (standing : Standing) (word : List ℕ) (count : ℕ) → standing.stage ≡ stages.FlowName
     → IsFront (λ w. is_some (flow_named standing.draft.flows w)) word count → IsFront (may_come standing) word count
 front_flow_name standing word count e f =

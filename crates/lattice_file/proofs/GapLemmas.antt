@@ -31,6 +31,7 @@ gap_on bytes from at end le more within before piece tail likes =
     (gap_before (slice_range bytes from at ++ (slice_range bytes at end ++ tail)) (slice_range bytes at end ++ tail)
     tail (before (slice_range bytes at end ++ tail) (likes_before bytes tail at end more likes)) (piece tail likes))
 
+-- a blank is a gap of one byte
 pub blank_gap : (bytes : List ℕ) (at : ℕ) → at < length bytes → is_blank (get_or bytes at 0) ≡ true
     → GapGoes bytes at (at + 1)
 blank_gap bytes at within is tail likes =
@@ -47,12 +48,14 @@ slice_two bytes at x y within p q =
     (slice_one bytes at (omega (arith, within)) ∙ ap (λ (b : ℕ). b ∷ []) p)
     ∙ ap (λ (w : List ℕ). x ∷ w) (slice_one bytes (at + 1) within ∙ ap (λ (b : ℕ). b ∷ []) q)
 
+-- a range of at least two bytes begins with the two that stand there
 slice_begun : (bytes : List ℕ) (at end : ℕ) (x y : ℕ) → at + 2 ≤ end → end ≤ length bytes → get_or bytes at 0 ≡ x
     → get_or bytes (at + 1) 0 ≡ y → slice_range bytes at end ≡ x ∷ y ∷ slice_range bytes (at + 2) end
 slice_begun bytes at end x y le within p q =
     sym (slice_join bytes at (at + 2) end (omega arith) le within)
     ∙ ap (λ (w : List ℕ). w ++ slice_range bytes (at + 2) end) (slice_two bytes at x y (omega (arith, le, within)) p q)
 
+-- a test that holds at each place of a list holds of all of it
 all_by_index : (p : ℕ → Bool) (xs : List ℕ) → ((k : ℕ) → k < length xs → p (get_or xs k 0) ≡ true)
     → list_all p xs ≡ true
 all_by_index p [] h = refl
@@ -231,6 +234,7 @@ not_first bytes at b h differs e = differs (same (get_or bytes at 0) b (sym (hea
 pub none_first : (bytes : List ℕ) (at b : ℕ) → length bytes ≤ at → first (drop at bytes) ≡ Some b → ⊥
 none_first bytes at b h e = let clash : None ≡ Some b = ap first (sym (drop_over bytes at h)) ∙ e in absurd cc
 
+-- a comment that ends is a gap up to its end
 pub ok_comment : (bytes : List ℕ) (at : ℕ) (r : Result ℕ ℕ) → get_or bytes at 0 ≡ 47 → get_or bytes (at + 1) 0 ≡ 42
     → IfOk r (λ end. at + 2 < end) → IfOk r (λ end. end ≤ length bytes) → IfOk r (CommentEnds bytes (at + 2)) →
     IfOk r (GapGoes bytes at)
@@ -238,6 +242,7 @@ ok_comment bytes at (Ok end) slash star later within ends =
     block_comment bytes at end (omega (arith, later)) within slash star ends
 ok_comment bytes at (Err place) slash star later within ends = tt
 
+-- a comment that stays open is a fault at the end of the text
 pub err_comment : (bytes : List ℕ) (at : ℕ) (r : Result ℕ ℕ) → at + 1 < length bytes → get_or bytes at 0 ≡ 47
     → get_or bytes (at + 1) 0 ≡ 42 → IfErr r (λ place. place ≡ length bytes)
     → IfErr r (λ place. StaysOpen (slice_range bytes (at + 2) place)) →

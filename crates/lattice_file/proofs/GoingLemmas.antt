@@ -26,6 +26,7 @@ gives_wide attributes.Color given then word gives = absurd gives
 gives_wide attributes.Write given then word (is, e) = ap (λ (g : Given). g.wide) e
 gives_wide attributes.Deref given then word (deref, is, e) = ap (λ (g : Given). g.wide) e
 
+-- a value changes nothing of whether the file is wide
 pub value_wide : (attribute : Attribute) (given then : Given) (bytes rest : List ℕ)
     → TakesValue attribute given then bytes rest → then.wide ≡ given.wide
 value_wide _ given then bytes rest (Word attribute word _ _ _ _ gives takes) =

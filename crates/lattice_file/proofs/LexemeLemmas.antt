@@ -68,6 +68,7 @@ some_of standing word h = by (next standing (WordLexeme word)) refl h
     by (Some new) e h = (new, e)
     by None e h = absurd cc
 
+-- a word that leads on may come
 comes : (standing new : Standing) (word : List ℕ) → next standing (WordLexeme word) ≡ Some new
     → may_come standing word ≡ true
 comes standing new word e =
@@ -283,6 +284,7 @@ quoted bytes at end less within quote =
     ∙ ap (λ (w : List ℕ). w ++ slice_range bytes (at + 1) end)
     (slice_one bytes at (omega (arith, less, within)) ∙ ap (λ (b : ℕ). b ∷ []) quote)
 
+-- a range of one byte more has that byte behind it
 slice_last : (bytes : List ℕ) (from end : ℕ) → from ≤ end → end < length bytes
     → slice_range bytes from (end + 1) ≡ slice_range bytes from end ++ get_or bytes end 0 ∷ []
 slice_last bytes from end le within =

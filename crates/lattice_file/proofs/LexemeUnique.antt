@@ -132,6 +132,7 @@ kinds_same x y bytes a b = sym a.kind ∙ ap kind_of (head_same a.byte b.byte a.
 pub word_stop : (b : ℕ) (bytes : List ℕ) → lengthens (b ∷ bytes) ≡ false → stands_in_words b ≡ true → ⊥
 word_stop b bytes h s = let clash : false ≡ true = sym h ∙ s in absurd cc
 
+-- a quote does not stand in a text
 text_stop : (b : ℕ) (bytes : List ℕ) → ((rest : List ℕ) × (b ∷ bytes ≡ 34 ∷ rest)) → stands_in_text b ≡ true → ⊥
 text_stop b bytes h s =
     let there : stands_in_text 34 ≡ true =

@@ -71,6 +71,7 @@ one_from (suc n) old bytes a b h ga gb =
         let less : length rest < n = omega (arith, shorter, gap_shorter bytes takes.behind takes.gap, h) in
         again new rest less goes (step_one old lexeme new bytes rest b e takes gb)
 
+-- where the reading of a file begins
 abbrev pub first_standing : Bool → Standing
 first_standing wide =
     At stages.Outside (no_attribute wide)

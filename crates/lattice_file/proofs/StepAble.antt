@@ -160,6 +160,7 @@ ready_sign stages.Attributed given draft sign new e =
         let p = only_is (nat_eq sign 93) (At stages.Items given (with_entry given draft)) new e in
         ready_as given.wide (At stages.Items given (with_entry given draft)) new p.1 tt refl
 
+-- a text leads to a standing that is ready, and as wide as before
 ready_text : (stage : Stage) (given : Given) (draft : Draft) (new : Standing)
     → next_by_text stage given draft ≡ Some new → IsReady new × (new.given.wide ≡ given.wide)
 ready_text (stages.Value attributes.Color) given draft new e =
@@ -415,6 +416,7 @@ able_outside : (given : Given) (draft : Draft) → Able (At stages.Outside given
 able_outside given draft =
     record { more = []; all = draft.blocks ++ []; goes = ([], End (10 ∷ []) (Blank 10 [] [] refl (Nothing [])), refl) }
 
+-- among items, of which one is there, the text can be brought to an end
 able_filled : (given : Given) (draft : Draft) → is_nonempty draft.entries ≡ true → Able (At stages.Items given draft)
 able_filled given draft h =
     able_sign (At stages.Items given draft) 125 (At stages.Outside given (with_block draft)) (rw h refl)
@@ -453,6 +455,7 @@ able_value attributes.Deref given draft =
     able_word (At (stages.Value attributes.Deref) given draft) (codes "yes") (At stages.Attributed then draft) refl
     (able_attributed then draft)
 
+-- at the `=` of an attribute the text can be brought to an end
 able_equals : (attribute : Attribute) (given : Given) (draft : Draft) → Able (At (stages.Equals attribute) given draft)
 able_equals attribute given draft =
     able_sign (At (stages.Equals attribute) given draft) 61 (At (stages.Value attribute) given draft) refl
@@ -496,11 +499,13 @@ able_attribute given draft h = by_level (is_some given.level) refl
     by_level false j = able_with attributes.Level j
     by_level true j = by_sign j (is_some given.sign) refl
 
+-- behind the name of an entry the text can be brought to an end
 able_named : (given : Given) (draft : Draft) → Able (At stages.Named given draft)
 able_named given draft =
     able_sign (At stages.Named given draft) 91 (At stages.Attribute (no_attribute given.wide) draft) refl
     (able_attribute (no_attribute given.wide) draft refl)
 
+-- among items the text can be brought to an end
 able_items : (given : Given) (draft : Draft) → Able (At stages.Items given draft)
 able_items given draft =
     let then = record draft { name = codes "$a" } in
@@ -512,11 +517,13 @@ able_high given draft =
     let then = record draft { pairs = draft.pairs ++ record { low = draft.name; high = codes "$a" } ∷ [] } in
     able_word (At stages.High given draft) (codes "$a") (At stages.Items given then) refl (able_items given then)
 
+-- where a block opens the text can be brought to an end
 able_open : (given : Given) (draft : Draft) → Able (At stages.Open given draft)
 able_open given draft =
     let then = record draft { entries = []; pairs = []; flows = no_flows } in
     able_sign (At stages.Open given draft) 123 (At stages.Items given then) refl (able_items given then)
 
+-- at the brace of a block with attributes the text can be brought to an end
 able_braced : (given : Given) (draft : Draft) → Able (At stages.Braced given draft)
 able_braced given draft =
     let then = record draft { entries = []; pairs = [] } in
@@ -538,6 +545,7 @@ able_flow Fieldflow given draft =
     able_word (At (stages.FlowValue Fieldflow) given draft) (codes "down") (At stages.Flowed given then) refl
     (able_flowed given then)
 
+-- at the `=` of an attribute of a block the text can be brought to an end
 able_flow_equals : (attribute : BlockAttribute) (given : Given) (draft : Draft)
     → Able (At (stages.FlowEquals attribute) given draft)
 able_flow_equals attribute given draft =

@@ -122,6 +122,7 @@ sees_items given draft rest behind all more more_entries more_pairs
       };
     }))
 
+-- items go on behind a value as behind all that was given
 as_then : (attribute : Attribute) (given then end : Given) (draft : Draft) (b2 b3 behind : List ℕ)
     (all : List BlockView)
     → TakesValue attribute given then b2 b3 →
@@ -205,6 +206,7 @@ free_full given attributes.Deref e = by (is_some given.level && is_some given.si
     by true = e
     by false = refl
 
+-- where an attribute follows, not all are given
 attributes_free : (given end : Given) (rest behind : List ℕ) → Attributes given end rest behind → is_full given ≡ false
 attributes_free given end rest behind (Last attribute _ _ _ b1 b2 b3 _ free word equals value sign) =
     free_full given attribute free
@@ -273,6 +275,7 @@ free_flows flows Fieldflow e = by (is_some flows.ptr)
     by true = e
     by false = refl
 
+-- where an attribute of a block follows, not all of its block are given
 flows_free : (flows end : Flows) (rest behind : List ℕ) → BlockAttributes flows end rest behind
     → has_all_flows flows ≡ false
 flows_free flows end rest behind (LastFlow _ _ _ b1 _ takes sign) = free_flows flows takes.attribute takes.free

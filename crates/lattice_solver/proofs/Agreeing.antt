@@ -38,6 +38,7 @@ includes_on : (a b : ℕ) (old new : PhaseSets) (p : Phase) (v : ℕ) → b ≡ 
     → Includes b new p v
 includes_on a b old new p v same keeps all e has = keeps p v e (all e (subst (λ set. bit_at set e ≡ 1) same has))
 
+-- where the sets of a variable are the same, it starts anew in both
 pub anew_on : (sys : System) (old new : PhaseSets) (v : ℕ) → ((p : Phase) → set_of new p v ≡ set_of old p v)
     → StartsAnew sys old v → StartsAnew sys new v
 anew_on sys old new v same anew nobody e has =

@@ -197,6 +197,7 @@ module _ (w : World) (well : AreWell w.names.declared) (uses : UsesDiffer w.name
       (back w (item_starts (has_access w.lattices) u w.names item) _ found) g one.0 in
       (two.0, (one.1, two.1))
 
+-- the names of sources are added to those before
 sources_grow : (sources : List Source) (s : Names) → Grows s (sources_named sources s)
 sources_grow [] s = stays s
 sources_grow (it ∷ sources) s =

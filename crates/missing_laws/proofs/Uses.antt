@@ -35,6 +35,7 @@ pub no_use_at : (xs ys : List NameUse) (it : NameUse) (p : Place) → NoUse (xs 
 no_use_at [] ys it p h = h.0
 no_use_at (x ∷ xs) ys it p h = no_use_at xs ys it p h.1
 
+-- two places are the same whichever is asked first
 other_way : (p q : Place) → is_place q p ≡ false → is_place p q ≡ true → ⊥
 other_way p q e is = let same : p ≡ q = place_is p q is in
     let itself : is_place q p ≡ true = subst (λ (r : Place). is_place q r ≡ true) (sym same) (place_itself q) in
@@ -56,6 +57,7 @@ type_where : (b : Bool) (x : CType) (o : Option CType) → (t : CType) × (o ≡
 type_where true x o h = (x, refl)
 type_where false x o h = h
 
+-- a type that was named has its entry where more come behind
 pub type_there : (xs ys : List TypeNamed) (it : TypeNamed)
     → (t : CType) × (type_named_at (xs ++ it ∷ ys) it.at ≡ Some t)
 type_there [] ys it =

@@ -69,6 +69,7 @@ parent_more low count n (Param of i next) le h = (h.0, let l = h.1 in omega (ari
 parent_more low count n (Result of e) le h = ellipsis_more low count e le h
 parent_more low count n (Ellipsis of) le h = tt
 
+-- rows that are linked below a count are linked below a greater one
 linked_more : (low count n : ℕ) (rows : List VarRow) → low ≤ count → AreLinked low n rows → AreLinked count n rows
 linked_more low count n [] le h = tt
 linked_more low count n (row ∷ rows) le h = (
@@ -137,6 +138,7 @@ mutual
       inner_append (rows_of t n (Param of i (n + size t))) (param_rows of (i + 1) ts (n + size t))
       (inner t n (Param of i (n + size t)) refl) (inner_params of (i + 1) ts (n + size t))
 
+-- rows inside a skeleton all have its owner
 inner_owners : (last : Owner) (rows : List VarRow) → AreInner rows
     → owners_from last rows ≡ replicate (length rows) last
 inner_owners last [] h = refl
@@ -204,6 +206,7 @@ owners_all last owner rows parent top is =
     let set : owner_set top.head.parent ≡ Some owner = ap owner_set top.parent_is ∙ is in
     rw top.parts (rw set (ap (λ (x : List Owner). owner ∷ x) (inner_owners owner top.tail top.rest)))
 
+-- rows behind others have their own owner, whatever stands before
 owners_behind : (last owner : Owner) (xs ys : List VarRow)
     → ((l : Owner) → owners_from l ys ≡ replicate (length ys) owner)
     → owners_from last (xs ++ ys) ≡ owners_from last xs ++ replicate (length ys) owner
@@ -212,6 +215,7 @@ owners_behind last owner (x ∷ xs) ys h =
     ap (λ (o : List Owner). unwrap_or (owner_set x.parent) last ∷ o)
     (owners_behind (unwrap_or (owner_set x.parent) last) owner xs ys h)
 
+-- the mark that a parent has is that of the first row below it
 marked : (rows : List VarRow) (parent : Parent) (mark : ℕ × ℕ) → IsTopped rows parent → mark_set parent ≡ Some mark
     → mark_of rows 0 ≡ Some mark
 marked rows parent mark top is =

@@ -63,6 +63,7 @@ by_parent rows n (Param of i next) lt mark part = (part, lt)
 by_parent rows n (Result of e) lt mark part = (part, lt)
 by_parent rows n (Ellipsis of) lt mark part = (part, lt)
 
+-- the row above a row, if there is one, has it as its part, and else it is a top
 pub above_stands : (rows : List VarRow) (n : ℕ) (row : VarRow) → RowStands rows n row
     → MatchOption (above row.parent) (n < length rows → IsTop rows n)
     (λ x. IsPart (skel_of rows) (owner_of rows) n x.0 x.1 × (n < length rows))

@@ -172,6 +172,7 @@ mutual
       (linked count t n (Param of i next) (omega (arith, le)) (omega (arith, some), omega (arith, le)))
       (params_linked count of (i + 1) ts next (omega (arith, le)))
 
+-- rows that are placed and rows that are placed behind them are placed together
 pub placed_append : (look : ℕ → Skel) (own : ℕ → Owner) (n k : ℕ) (xs ys : List VarRow) → n + length xs ≡ k
     → ArePlaced look own n xs → ArePlaced look own k ys → ArePlaced look own n (xs ++ ys)
 placed_append look own n k [] ys e h g =

@@ -12,6 +12,7 @@ some_size (struct ws s) = omega arith
 some_size (pointer ws t) = omega arith
 some_size (function ws ps r e) = omega arith
 
+-- types have at least the size of their count
 pub as_many : (types : List CType) (ns : List ℕ) → length ns ≤ sizes (types_at types ns)
 as_many types [] = omega arith
 as_many types (n ∷ ns) =

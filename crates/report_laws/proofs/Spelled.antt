@@ -15,6 +15,7 @@ abbrev TokensFree : List ℕ → List Token → Type 0
 TokensFree bytes tokens =
     (k : ℕ) (t : Token) → slice_get tokens k ≡ Some t → has 10 (slice_range bytes t.start t.end) ≡ false
 
+-- one more token without a line feed leaves the tokens without one
 token_more : (bytes : List ℕ) (tokens : List Token) (token : Token) → TokensFree bytes tokens
     → has 10 (slice_range bytes token.start token.end) ≡ false → TokensFree bytes (tokens ++ token ∷ [])
 token_more bytes tokens token free here k t there =

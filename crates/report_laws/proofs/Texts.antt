@@ -36,12 +36,14 @@ abbrev pub errors_then : List WrittenError → List Line → List Line
 errors_then [] behind = behind
 errors_then (e ∷ errors) behind = Error ∷ sub_lines 1 e.subs (Path ∷ step_lines e.main (errors_then errors behind))
 
+-- the lines of joined errors are those of the first and then of the second
 then_append : (one two : List WrittenError) (behind : List Line)
     → errors_then (one ++ two) behind ≡ errors_then one (errors_then two behind)
 then_append [] two behind = refl
 then_append (e ∷ one) two behind =
     ap (λ (ls : List Line). Error ∷ sub_lines 1 e.subs (Path ∷ step_lines e.main ls)) (then_append one two behind)
 
+-- errors with nothing behind are their lines
 pub then_nothing : (errors : List WrittenError) → errors_then errors [] ≡ error_lines errors
 then_nothing [] = refl
 then_nothing (e ∷ errors) =

@@ -33,6 +33,7 @@ first_map : (steps : List PathStep) → first_of (all_plain steps) ≡ option_ma
 first_map [] = refl
 first_map (s ∷ steps) = refl
 
+-- the last step without its line is the last of the steps without theirs
 last_map : (steps : List PathStep) → last_of (all_plain steps) ≡ option_map plain (last_of steps)
 last_map steps =
     ap (λ (n : ℕ). slice_get (all_plain steps) (n - 1)) (map_length plain steps)

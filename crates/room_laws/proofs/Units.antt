@@ -205,6 +205,7 @@ knot_more zero (suc d) h = tied_more 0 never (knot d) (nothing_more (knot d))
 knot_more (suc n) zero h = absurd (omega (arith, h))
 knot_more (suc n) (suc d) h = tied_more (suc n) (knot n) (knot d) (knot_more n d (omega (arith, h)))
 
+-- the law: with more room a unit is read alike
 pub more_room_is_more : MoreRoomIsMore
 more_room_is_more room wide one wider dialect all =
     more_bind _ _ _ _ (items_more (suc room) (knot room) (knot wide) (knot_more room wide wider) (room - 1) (wide - 1)

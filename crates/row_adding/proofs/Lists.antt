@@ -30,6 +30,7 @@ take_front (suc n) [] ys le = absurd (omega (arith, le))
 take_front zero (x ∷ xs) ys le = refl
 take_front (suc n) (x ∷ xs) ys le = ap (λ (l : List Constraint). x ∷ l) (take_front n xs ys (omega (arith, le)))
 
+-- a front that reaches into the second of two lists has all of the first
 take_back : (n : ℕ) (xs ys : List Constraint) → take (length xs + n) (xs ++ ys) ≡ xs ++ take n ys
 take_back n [] ys = let e : 0 + n ≡ n = omega arith in ap (λ k. take k ys) e
 take_back n (x ∷ xs) ys =

@@ -125,6 +125,7 @@ none_by ways skeletons all s t true true false e f g h = absurd cc
 none_by ways skeletons all s t true false d e f g h = absurd cc
 none_by ways skeletons all s t false b d e f g h = absurd cc
 
+-- where nothing passes between a struct and its fields, nothing is added
 pub none_formed : (ways : Ways) (skeletons : List Numbered) (all : List Aggregate) (s : Span) (t : Skel) (a : System)
     → passes_none ways ≡ true → a ≡ with a (formed_in ways skeletons all s t)
 none_formed ways skeletons all s t a h =

@@ -46,6 +46,7 @@ other_more (it ∷ others) c e = by (other_more others c e) it.is_zero where
   by h true = h
   by h false = ap (λ some. it ∷ some) h
 
+-- one more candidate leaves the first value that of the list
 first_added : (all : List Candidate) (c : Candidate) (count : Count) (old new : Val) → count ≡ count_of all →
     old ≡ first_val all → new ≡ first_by count old c.val → new ≡ first_val (all ++ c ∷ [])
 first_added all c count old new count_is old_is is =

@@ -10,6 +10,7 @@ or_through : (test rest last : Bool) → (test || (rest || last)) ≡ ((test || 
 or_through true rest last = refl
 or_through false rest last = refl
 
+-- one more word gives a list `__auto_type` if it is that or the list had it
 pub auto_pushed : (ws : SpecWords) (w : SpecWord) → has_auto (pushed ws w) ≡ (has_auto ws || is_auto w)
 auto_pushed no_words w = or_false (is_auto w)
 auto_pushed (more_words first ws) w =

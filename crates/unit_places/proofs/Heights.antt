@@ -104,6 +104,7 @@ module _ (formed : UnitIsWellFormed) (read_back : WellFormedIsRead) (whole_are :
           → More (unit_of most wide all) (unit_of height wide all) → ⊥
       by_more n is m = by_result n (unit_of most wide all) is m
 
+-- the law: a refusal because no form of the grammar goes on so is allowed for its syntax
 pub syntax_is_allowed : PlaceIsFirst → HeightAlone → FirstBadIsAllowed → SyntaxIsAllowed
 syntax_is_allowed first alone allowed wide tokens at ended e =
     allowed wide tokens at (first wide tokens Unexpected at ended e)

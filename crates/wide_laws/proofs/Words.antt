@@ -12,6 +12,7 @@ use Rattle.c_reading.specs.Tokens.{is_attribute, is_extension, is_text, is_stati
 use Rattle.wide_laws.specs.Wide.{Late, Both}
 use Rattle.wide_laws.proofs.Both.{all_left, behind_left, late_bind, late_refused, late_if, late_take, late_repeated, both_same, both_then, both_fits, both_choice, both_run, BothTurn, both_repeated, ready, past_take}
 
+-- a test of the next token is late
 pub late_token : (test : TokenKind → Bool) (s : HeldScopes) (ts : List Lexeme) → Late ts (token_at test s ts)
 late_token test s [] = inr (late_refused [])
 late_token test s (t ∷ ts) =

@@ -56,6 +56,7 @@ pub record IsBasicWord (word : Keyword) : Type 0 where
   pub no_align : word ≢ words.Alignas
   pub no_auto : word ≢ words.AutoType
 
+-- `long` is a word of a basic type
 long_is_basic : IsBasicWord words.Long
 long_is_basic =
     record {
@@ -76,6 +77,7 @@ long_is_basic =
       no_auto = λ e. absurd cc;
     }
 
+-- `float` is a word of a basic type
 float_is_basic : IsBasicWord words.Float
 float_is_basic =
     record {

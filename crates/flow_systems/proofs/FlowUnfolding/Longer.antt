@@ -6,6 +6,7 @@ use Rattle.std.proofs.lemmas.Option.{slice_get_read, get_or_from_slice_get}
 use Rattle.std.proofs.lemmas.List.Elements.{Contains-push, Contains-append_left}
 use Rattle.flow_systems.specs.FlowUnfolding.Strings.{HasAll}
 
+-- a string that a list has is still there when one more comes behind
 pub kept_push : (old new : List (List ℕ)) (y w : List ℕ) → new ≡ old ++ y ∷ [] → Contains old w → Contains new w
 kept_push old new y w is there =
     let Has : List (List ℕ) → Type 0 = λ k. Contains k w in
@@ -27,6 +28,7 @@ added_push old new strings site i x y longer is item before k w less at = elim (
       subst Has (sym longer) (subst New (is ∙ ap (λ z. site ∷ z) one) (Contains-push old y))
 ]
 
+-- strings with a site put before each are all there when the last was added
 pub added_all : (strings all : List (List ℕ)) (site i : ℕ) → length strings ≤ i →
     ((k : ℕ) (w : List ℕ) → k < i → slice_get strings k ≡ Some w → Contains all (site ∷ w)) → (w : List ℕ)
     → Contains strings w → Contains all (site ∷ w)
@@ -42,6 +44,7 @@ all_none strings x count one is [] below short =
     let first : First [] = (0, omega arith, refl) in subst Has (sym one) (subst First (sym is) first)
 all_none strings x count one is (s ∷ w) below short = absurd (omega (arith, short))
 
+-- all strings of a depth, with each site before them, are those of the next depth
 pub all_longer : (strings all : List (List ℕ)) (count depth : ℕ) → HasAll strings count depth → Contains all [] →
     ((s : ℕ) (w : List ℕ) → s < count → Contains strings w → Contains all (s ∷ w)) → HasAll all count (depth + 1)
 all_longer strings all count depth has empty added [] below short = empty

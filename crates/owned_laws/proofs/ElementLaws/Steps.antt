@@ -179,11 +179,13 @@ units_named law p (it ∷ sources) =
     lists_named p.lattices (unit_rows (world_of p it) (tape_of it.items)) (rows_among p sources)
     (tape_named law (world_of p it) (tape_of it.items) nothing) (units_named law p sources)
 
+-- the law: in each lattice constants and bounds name elements of it
 pub elements_are_named : Flows → ConstraintsAreFound → ElementsAreNamed
 elements_are_named law found p sound sized =
     system_named p.lattices (system_of p) sized
     (subst (AllNamed p.lattices) (found p sound) (units_named law p p.sources))
 
+-- the law: each constant and bound names a lattice that is there, and an element of it
 pub lattices_are_named : Flows → ConstraintsAreFound → LatticesAreNamed
 lattices_are_named law found p sound sized =
     lattices_named p.lattices (system_of p) sized

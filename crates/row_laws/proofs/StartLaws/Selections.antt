@@ -790,6 +790,7 @@ module _ (k : Over) where
   items_select [] = nothing
   items_select (item ∷ items) = join (item_select item) (items_select items)
 
+-- the law: the selections of a unit are those that are found on its tape
 pub selections_are_found : ShapesAreLeft → AddressedAreLeft → OldNamesAreLeft → SelectionsAreFound
 selections_are_found shaped addressed olds u s items =
     (items_select

@@ -76,6 +76,7 @@ stops_within old now new fault before list after whole so all stop = record {
 
 -- two rows, one behind the other
 
+-- rows that were added and rows that were added behind them are both there
 pub rows_added : {T : Type 0} (r : Result T GraphFault) (k : Known) (old now new : System)
     (first second : World → List Constraint) →
     Adds k old now first → OnOk r (Adds k now new second) → OnOk r (Adds k old new (λ w. first w ++ second w))
