@@ -12,7 +12,8 @@ use Rattle.qual_types.specs.Skel.{Skel, flat, ref, fun, root, param_at, struct_o
 use Rattle.flow_rules.specs.Lists.{equal}
 use Rattle.name_rules.specs.Spellings.{Named}
 use Rattle.name_rules.specs.Uses.{use_at, type_named_at}
-use Rattle.type_rules.specs.Tokens.{first_word, declared_name, is_bare}
+use Rattle.c_tree.specs.Firsts.{first_word}
+use Rattle.type_rules.specs.Tokens.{declared_name, is_bare}
 use Rattle.type_rules.specs.Shapes.{is_zero}
 use Rattle.constraint_rules.specs.Values.{val, pointer_to, candidate_of, candidates_of}
 use Rattle.row_rules.specs.Annotations.{further, parameters, write_bounds, has_access}

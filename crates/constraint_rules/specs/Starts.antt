@@ -11,7 +11,8 @@ use Rattle.name_rules.specs.Spellings.{Place, Spelling, place}
 use Rattle.name_rules.specs.Scopes.{Names}
 use Rattle.name_rules.specs.Values.{value, Candidate, is_fresh_pick, pick_shape}
 use Rattle.name_rules.specs.Uses.{use_at, type_named_at, text_type}
-use Rattle.type_rules.specs.Tokens.{first_word, declared_name, is_bare}
+use Rattle.c_tree.specs.Firsts.{first_word}
+use Rattle.type_rules.specs.Tokens.{declared_name, is_bare}
 use Rattle.type_rules.specs.Shapes.{is_zero, shape_of, candidate_of, associations_of}
 use Rattle.row_rules.specs.Starting.{Around, Having, Start, declared_function, fresh, fresh_where, had_name, having_where, is_fresh_binary, is_some_pointer, name_start, quiet, some_fresh, some_place, use_start, of_function, with_skeleton, without_skeleton, prefix_starts, selected_by}
 use Rattle.c_tree.specs.Addresses.{comes_by_pointer}

@@ -11,7 +11,8 @@ use Rattle.type_table.specs.Types.{Words, CType, base, words_of}
 use Rattle.name_rules.specs.Spellings.{Spelling, Place, place, Named}
 use Rattle.name_rules.specs.Scopes.{enumerator_role, Names, meaning}
 use Rattle.name_rules.specs.Declaring.{used, type_named, untagged_number, own_where, declared_some}
-use Rattle.type_rules.specs.Tokens.{first_word, declared_name, some_declared_name, is_bare, are_auto, have_values}
+use Rattle.c_tree.specs.Firsts.{first_word}
+use Rattle.type_rules.specs.Tokens.{declared_name, some_declared_name, is_bare, are_auto, have_values}
 use Rattle.type_rules.specs.Naming.{tag_kind, tag_named, body_begun, unnamed_by, unnamed_among, is_tag_alone, said_words, has_untagged, words_behind, expr_named, some_expr_named, exprs_named, words_named, word_named, struct_named, struct_items_named, struct_item_named, unnamed_where, mem_declrs_named, mem_declr_named, some_value_named, enum_named, enumerators_named, declr_named, some_declr_named, some_size_named, params_named, init_named, init_list_named, init_items_named, desigs_named, some_init_named, init_declrs_named, declaration_named, decl_named, block_items_named, block_item_named, stmt_named, some_else_named, for_start_named, assoc_named, assocs_named, auto_declrs_named, typed_by, with_typed, with_pieced}
 use Rattle.c_tree.specs.declared.lexeme.Lexeme.{Lexeme}
 use Rattle.c_tree.specs.WellFormed.{IsExpr, IsSomeExpr, AreArguments, IsInit, IsInitList, AreInitItems, IsSomeInit, AreInitDeclrs, IsDeclaration, IsDecl, AreBlockItems, IsBlockItem, IsStmt, IsOther, IsStart, AreAssocs, AreEnumerators, AreMemDeclrs, AreParams, AreSpecWords, AreStructItems, IsAssoc, IsBody, IsDeclr, IsEnum, IsMemDeclr, IsSize, IsSomeDeclr, IsSomeValue, IsSpecWord, IsStructItem, has_auto, AreTypeWords, IsSomeAbstract}

@@ -9,7 +9,8 @@ use Rattle.name_rules.specs.Scopes.{Names}
 use Rattle.name_rules.specs.Values.{Target, no_target, to, value, some_target, is_no_pointer}
 use Rattle.name_rules.specs.Uses.{type_named_at}
 use Rattle.name_rules.specs.Checks.{call_faults, index_faults_at, member_faults, prefix_faults}
-use Rattle.type_rules.specs.Tokens.{declared_name, first_word}
+use Rattle.c_tree.specs.Firsts.{first_word}
+use Rattle.type_rules.specs.Tokens.{declared_name}
 use Rattle.type_rules.specs.Shapes.{shape_of}
 use Rattle.type_rules.specs.Judging.{assocs_faults, assoc_faults, declarations_faults, old_declr_faults, count, next_behind, item_target, declared_type, expr_faults, operator_faults, middle_faults, some_expr_faults, exprs_faults, desigs_faults, indices_faults, init_faults, untargeted_faults, untargeted_items_faults, list_faults, items_faults, words_faults, declr_faults, some_declr_faults, init_declrs_faults, some_init_faults, declaration_faults, decl_faults, block_items_faults, block_item_faults, stmt_faults, some_else_faults, for_start_faults, item_faults, items_faults_of}
 use Rattle.missing_laws.specs.Everywhere.{AssocsHave, AssocHas, DeclarationsHave, OldDeclrHas, ExprHas, OperatorHas, SomeExprHas, ExprsHave, InitHas, InitListHas, InitItemsHave, SomeInitHas, InitDeclrsHave, DeclarationHas, DeclHas, BlockItemsHave, BlockItemHas, StmtHas, SomeElseHas, ForStartHas, ItemHas, ItemsHave}

@@ -10,7 +10,8 @@ use Rattle.name_rules.specs.Scopes.{Role, typedef_role, object_role, function_ro
 use Rattle.name_rules.specs.Linking.{link_of}
 use Rattle.name_rules.specs.Uses.{type_named_at, use_at, use_shape}
 use Rattle.name_rules.specs.Values.{Shape, Association, value, has_of_type, member_in, own_of}
-use Rattle.type_rules.specs.Tokens.{first_word, some_declared_name}
+use Rattle.c_tree.specs.Firsts.{first_word}
+use Rattle.type_rules.specs.Tokens.{some_declared_name}
 use Rattle.type_rules.specs.Shapes.{shape_of, associations_of}
 use Rattle.type_rules.specs.Judging.{expr_faults}
 use Rattle.row_rules.specs.Sites.{has_place}

@@ -19,15 +19,14 @@ use Rattle.c_tree.specs.Ends.{first_token, last_token}
 use Rattle.c_tree.specs.Addresses.{comes_by_pointer}
 use Rattle.name_rules.specs.Checks.{is_star}
 use Rattle.c_syntax.specs.declared.parts.Identifier.{Identifier}
-use Rattle.c_tree.specs.Firsts as tape_tokens
+use Rattle.c_tree.specs.Firsts.{first_word}
 use Rattle.c_tape.specs.Tests.{says_none}
 use Rattle.c_tape.specs.Tape.{prefix_tape, assoc_count, expr, form, init, stmt, spec, declr, count, arguments, operator_tape, body_tape, type_name_with, params_with, params_tape, rule_of_list, quietly, in_scope}
 use Rattle.type_table.specs.Types.{CType}
 use Rattle.name_rules.specs.Spellings.{Named}
-use Rattle.name_rules.specs.Uses.{type_named_at}
 use Rattle.qual_types.specs.Skel.{Skel, param_at}
 use Rattle.name_rules.specs.ShapeSteps.State.{OpenDeclaration}
-use Rattle.row_rules.specs.Worlds.{World, at, span}
+use Rattle.row_rules.specs.Worlds.{World, span}
 use Rattle.row_rules.specs.Annotations.{has_access, parameters, further}
 use Rattle.row_rules.specs.Rows.{carried, index_demand, dereferenced, picked, prefixed, param_kind, literal_row, own_skeleton, assigned, chosen, computed}
 use Rattle.row_rules.specs.Rows as rows_of
@@ -38,7 +37,6 @@ use Rattle.constraint_rules.specs.Demands as demands
 use Rattle.row_rules.specs.RowSteps.Rounds.{Naming, a_name, own_param, other_param, Rounds, is_quiet, naming, with_round, entered, silenced, next_naming, params_naming}
 use Rattle.row_rules.specs.RowSteps.State.{Operand, expression, put, State, first_operand, val_of_operand, is_zero_operand, type_of_operand, whole}
 use Rattle.name_rules.specs.ShapeSteps.Steps.{twice}
-use Rattle.resolve_laws.proofs.NameLaws.Agreeing.{same_first}
 use Rattle.row_rules.specs.RowSteps.Steps.{run, initialised_by, selected, carrying, with_round_step}
 use Rattle.row_rules.specs.RowSteps.OpRows.{op_row, naming_row, function_skeleton}
 use Rattle.row_laws.proofs.Goes.{Registers, one_at, carried_on, Over, unless, unless_none, Stacks, state, Runs, stay, op_runs, chain, started_from, giving, ending, ending_at, Goes, as_is, one, join, from, next, same, reaching, without, silent_runs, group_two, group_three}
@@ -358,13 +356,12 @@ module _ (k : Over) (r : Rounds) where
   -- a type name, by what its words and its declarator do
   pub type_name_goes : {words d : List Op} {fs gs : List Constraint} (ws : SpecWords) (name : Option ℕ) →
       Goes k r words as_is as_is fs → Goes k r d (declaring None None) (declaring name None) gs
-      → Goes k r (type_name_with words d (tape_tokens.first_word ws)) as_is (with_value (type_at_words k ws))
+      → Goes k r (type_name_with words d (first_word ws)) as_is (with_value (type_at_words k ws))
       (fs ++ gs)
   type_name_goes ws name p q =
       reaching _ (without (join (without p (one [] (λ y c s. refl) (λ c s. refl))) q)
       (one [] (λ y c s. refl) (λ c s. refl)))
-      (λ c. ap (λ (token : ℕ). with_value (type_named_at k.world.names.type_names (at k.world token)) c)
-      (same_first ws))
+      (λ c. refl)
 
   -- initialisers in braces
 

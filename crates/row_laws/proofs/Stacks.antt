@@ -8,7 +8,8 @@ use Rattle.c_tape.specs.Tape.{count, assoc_count}
 use Rattle.type_table.specs.Types.{CType}
 use Rattle.name_rules.specs.Spellings.{Named}
 use Rattle.name_rules.specs.Uses.{type_named_at}
-use Rattle.type_rules.specs.Tokens.{first_word, declared_name, some_declared_name}
+use Rattle.c_tree.specs.Firsts.{first_word}
+use Rattle.type_rules.specs.Tokens.{declared_name, some_declared_name}
 use Rattle.type_rules.specs.Shapes.{is_zero}
 use Rattle.qual_types.specs.Skel.{Skel}
 use Rattle.row_rules.specs.Worlds.{World, at}

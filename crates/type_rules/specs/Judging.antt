@@ -9,7 +9,8 @@ use Rattle.name_rules.specs.Scopes.{Names, declared_at}
 use Rattle.name_rules.specs.Values.{Shape, value, some_target, member_type, is_no_pointer, Target, no_target, to, behind_member}
 use Rattle.name_rules.specs.Uses.{type_named_at}
 use Rattle.name_rules.specs.Checks.{prefix_faults, call_faults, type_declared, member_faults, index_faults_at, target_of_item}
-use Rattle.type_rules.specs.Tokens.{first_word, declared_name}
+use Rattle.c_tree.specs.Firsts.{first_word}
+use Rattle.type_rules.specs.Tokens.{declared_name}
 use Rattle.type_rules.specs.Shapes.{shape_of}
 
 -- how many expressions there are

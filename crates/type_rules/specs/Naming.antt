@@ -14,7 +14,8 @@ use Rattle.name_rules.specs.Spellings.{Place, Spelling, place, Named}
 use Rattle.name_rules.specs.Scopes.{enumerator_role, Names, meaning, enter, leave, sized, with_faults}
 use Rattle.name_rules.specs.Pieces.{with_words, decayed, Piece, to_pointer, to_function, applied, no_params_if, bare, types_in}
 use Rattle.name_rules.specs.Declaring.{used, type_named, type_by, Numbered, tag_used, tag_type, Begun, tag_begun, untagged_begun, untagged_number, declared_here, linked, has_word, declared_thing, declared_some, declared_param, declared_member, unnamed_member, own_where, keep, body_entered, body_left, is_counted_by}
-use Rattle.type_rules.specs.Tokens.{are_auto, annotations, annotation, pointer_annotations, array_annotations, first_word, declared_name, some_declared_name, is_bare, is_void, says_none}
+use Rattle.c_tree.specs.Firsts.{first_word}
+use Rattle.type_rules.specs.Tokens.{are_auto, annotations, annotation, pointer_annotations, array_annotations, declared_name, some_declared_name, is_bare, is_void, says_none}
 use Rattle.name_rules.specs.Faults.{no_type, fault_where}
 use Rattle.name_rules.specs.Values.{value}
 use Rattle.name_rules.specs.Identifiers.{Olds, identified, old_declared_some, old_faults, old_types}

@@ -6,7 +6,7 @@ use Rattle.name_rules.specs.Spellings.{Spelling, place}
 use Rattle.name_rules.specs.Scopes.{Names}
 use Rattle.name_rules.specs.Values.{Shape, a_value, a_place, value, some_target, is_plain_void_pointer, binary_type, cond_type, index_shape, Candidate, Association, pick_shape, selected_shape, some_result_type, member_type}
 use Rattle.name_rules.specs.Uses.{use_at, type_named_at, use_shape, prefix_shape, assigned_shape, text_type}
-use Rattle.type_rules.specs.Tokens.{first_word}
+use Rattle.c_tree.specs.Firsts.{first_word}
 
 module _ (u : Spelling) (s : Names) where
   -- a zero: a number spelled `0`, one in parentheses, or one that is cast to `void *` without annotation words

@@ -1,23 +1,17 @@
--- The annotation words, first tokens and names of parts of trees.
+-- The annotation words and names of parts of trees.
 use Rattle.std.specs.Prelude.{ℕ, Bool, true, false, ◌&&◌, List, [], ◌∷◌, ◌++◌, Option, None, Some}
 use Rattle.c_words.specs.declared.kinds.Keyword.{Keyword}
 use Rattle.c_words.specs.declared.kinds.Keyword.TheVariants as keywords
 use Rattle.c_syntax.specs.declared.parts.Qual.{Qual}
-use Rattle.c_syntax.specs.declared.parts.Qual.TheVariants as quals
 use Rattle.c_syntax.specs.declared.parts.PointerWord.{PointerWord}
 use Rattle.c_syntax.specs.declared.parts.PointerWord.TheVariants as pointer_words
 use Rattle.c_syntax.specs.declared.parts.ArrayWord.{ArrayWord}
 use Rattle.c_syntax.specs.declared.parts.ArrayWord.TheVariants as array_words
+use Rattle.c_tree.specs.Firsts.{qual_token}
 use Rattle.c_tree.specs.WellFormed.{has_auto}
-use Rattle.c_tree.specs.Tree.{InitDeclrs, no_init_declrs, more_init_declrs, SomeInit, no_init, some_init, init_value, init_braced, SpecWords, no_words, more_words, SpecWord, storage, thread, inline_word, noreturn, qualifier, basic, struct_type, enum_type, typedef_name, attribute, EnumType, enum_of, Declr, pointer, declr_name, declr_paren, array, params, abs_pointer, abs_paren, abs_array, abs_params, SomeDeclr, no_declr, some_declr, Params, no_params, more_params, typeof_value, typeof_type, align, auto_word, identifiers, base_name, complex_part, label_use, compat, choose, generic, range_desig, old_desig, case_range, goto_value, block_labels, Assocs, no_assocs, more_assocs, Assoc, typed_assoc, default_assoc}
+use Rattle.c_tree.specs.Tree.{InitDeclrs, no_init_declrs, more_init_declrs, SomeInit, no_init, some_init, init_value, init_braced, SpecWords, no_words, more_words, SpecWord, storage, thread, inline_word, noreturn, qualifier, basic, struct_type, enum_type, typedef_name, attribute, Declr, pointer, declr_name, declr_paren, array, params, abs_pointer, abs_paren, abs_array, abs_params, SomeDeclr, no_declr, some_declr, Params, no_params, more_params, typeof_value, typeof_type, align, auto_word, identifiers, base_name, complex_part, label_use, compat, choose, generic, range_desig, old_desig, case_range, goto_value, block_labels, Assocs, no_assocs, more_assocs, Assoc, typed_assoc, default_assoc}
 use Rattle.type_table.specs.Types.{Words}
 use Rattle.name_rules.specs.Spellings.{Spelling, annotation_at, Named}
-
--- the token of a qualifier word
-abbrev pub qual_token : Qual → ℕ
-qual_token (quals.Word word) = word.token
-qual_token (quals.Element token) = token
-qual_token (quals.Index token) = token
 
 -- the annotation that a qualifier word is, where it is one
 abbrev pub annotation : Spelling → Qual → Words
@@ -39,32 +33,6 @@ abbrev pub array_annotations : Spelling → List ArrayWord → Words
 array_annotations u [] = []
 array_annotations u (array_words.Static token ∷ words) = array_annotations u words
 array_annotations u (array_words.Qual q ∷ words) = annotation u q ++ array_annotations u words
-
--- the token of the keyword of an `enum`
-abbrev pub enum_token : EnumType → ℕ
-enum_token (enum_of keyword attrs tag body) = keyword
-
--- the first token of a word of specifiers
-abbrev pub word_token : SpecWord → ℕ
-word_token (storage word) = word.token
-word_token (thread token) = token
-word_token (inline_word token) = token
-word_token (noreturn token) = token
-word_token (qualifier q) = qual_token q
-word_token (basic word) = word.token
-word_token (struct_type word attrs tag body) = word.token
-word_token (enum_type e) = enum_token e
-word_token (typedef_name name) = name.token
-word_token (attribute attr) = attr.keyword
-word_token (typeof_value keyword opening e closing) = keyword
-word_token (typeof_type word opening ws d closing) = word.token
-word_token (align attr) = attr.keyword
-word_token (auto_word token) = token
-
--- of a type's name that begins with these words; token 0 where there is none, as in no well-formed unit
-abbrev pub first_word : SpecWords → ℕ
-first_word no_words = 0
-first_word (more_words word words) = word_token word
 
 -- the name that a declarator declares
 abbrev mutual

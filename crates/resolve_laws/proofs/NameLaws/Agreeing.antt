@@ -2,13 +2,10 @@
 use Rattle.std.proofs.Common.{◌≡◌, refl}
 use Rattle.c_words.specs.declared.kinds.Keyword.{Keyword}
 use Rattle.c_words.specs.declared.kinds.Keyword.TheVariants as keywords
-use Rattle.c_syntax.specs.declared.parts.Qual.{Qual}
-use Rattle.c_syntax.specs.declared.parts.Qual.TheVariants as quals
-use Rattle.c_tree.specs.Tree.{SpecWords, no_words, more_words, SpecWord, storage, thread, inline_word, noreturn, qualifier, basic, struct_type, enum_type, typedef_name, attribute, SomeBody, no_body, some_body, EnumType, enum_of, Declr, pointer, declr_name, declr_paren, array, params, abs_pointer, abs_paren, abs_array, abs_params, no_declr, some_declr, Params, no_params, more_params, InitDeclrs, no_init_declrs, more_init_declrs, identifiers, base_name, typeof_value, typeof_type, align, auto_word, SomeInit, no_init, some_init, init_value, init_braced}
+use Rattle.c_tree.specs.Tree.{SpecWords, no_words, more_words, SpecWord, storage, thread, inline_word, noreturn, qualifier, basic, struct_type, enum_type, typedef_name, attribute, SomeBody, no_body, some_body, Declr, pointer, declr_name, declr_paren, array, params, abs_pointer, abs_paren, abs_array, abs_params, no_declr, some_declr, Params, no_params, more_params, InitDeclrs, no_init_declrs, more_init_declrs, identifiers, base_name, typeof_value, typeof_type, align, auto_word, SomeInit, no_init, some_init, init_value, init_braced}
 use Rattle.type_rules.specs.Naming as names
 use Rattle.type_rules.specs.Tokens as trees
 use Rattle.c_tape.specs.Tests as tests
-use Rattle.c_tree.specs.Firsts as tokens
 
 pub same_void : (word : Keyword) → tests.is_void word ≡ trees.is_void word
 same_void keywords.Void = refl
@@ -17,36 +14,6 @@ same_void word = refl
 pub same_kind : (word : Keyword) → tests.tag_kind word ≡ names.tag_kind word
 same_kind keywords.Union = refl
 same_kind word = refl
-
--- the token of a qualifier is the same by the tree's rule and by the rule of types
-pub same_qual : (q : Qual) → tokens.qual_token q ≡ trees.qual_token q
-same_qual (quals.Word word) = refl
-same_qual (quals.Element token) = refl
-same_qual (quals.Index token) = refl
-
-pub same_enum : (e : EnumType) → tokens.enum_token e ≡ trees.enum_token e
-same_enum (enum_of keyword attrs tag body) = refl
-
--- the first token of a specifier is the same by the tree's rule and by the rule of types
-pub same_word : (word : SpecWord) → tokens.word_token word ≡ trees.word_token word
-same_word (storage word) = refl
-same_word (thread token) = refl
-same_word (inline_word token) = refl
-same_word (noreturn token) = refl
-same_word (qualifier q) = same_qual q
-same_word (basic word) = refl
-same_word (struct_type word attrs tag body) = refl
-same_word (enum_type e) = same_enum e
-same_word (typedef_name name) = refl
-same_word (attribute attr) = refl
-same_word (typeof_value keyword opening e closing) = refl
-same_word (typeof_type word opening ws2 d closing) = refl
-same_word (align attr) = refl
-same_word (auto_word token) = refl
-
-pub same_first : (ws : SpecWords) → tokens.first_word ws ≡ trees.first_word ws
-same_first no_words = refl
-same_first (more_words word ws) = same_word word
 
 -- a specifier adds nothing to `void` by the test of tapes where it leaves `void` no parameter by the rule of types
 same_bare_word : (word : SpecWord) → tests.is_bare_word word ≡ trees.leaves_void word

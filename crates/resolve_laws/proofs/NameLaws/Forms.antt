@@ -27,13 +27,13 @@ use Rattle.name_rules.specs.NameSteps.Steps.{untagged_by, body, linked_some}
 use Rattle.type_rules.specs.Naming as names
 use Rattle.type_rules.specs.Naming.{Typed, Pieced, typed, expr_named, some_size_named, with_typed, with_pieced, body_begun, words_behind, tag_named, words_named, word_named, struct_named, struct_items_named, struct_item_named, unnamed_where, unnamed_among, unnamed_by, mem_declrs_named, mem_declr_named, some_value_named, enum_named, enumerators_named, declr_named, some_declr_named, params_named, init_declrs_named, some_init_named, declaration_named, is_tag_alone}
 use Rattle.type_rules.specs.Tokens as trees
-use Rattle.type_rules.specs.Tokens.{first_word, declared_name, some_declared_name, is_bare, leaves_void, leave_void}
+use Rattle.c_tree.specs.Firsts.{first_word}
+use Rattle.type_rules.specs.Tokens.{declared_name, some_declared_name, is_bare, leaves_void, leave_void}
 use Rattle.c_tape.specs.Tests as tests
-use Rattle.c_tree.specs.Firsts as tokens
 use Rattle.c_tape.specs.Tape.{expr_tape, some_size_tape, spec, declr, specs_with, type_name_with, params_with, tag_tape, body_tape, words_tape, word_tape, struct_tape, struct_items_tape, members_tape, unnamed_tape, unnamed_word_tape, mem_declrs_tape, mem_declr_tape, some_value_tape, enum_tape, enumerators_tape, some_declr_tape, contents, some_contents, params_tape, some_init_tape, init_declrs_tape, struct_item_tape}
 use Rattle.resolve_laws.proofs.NameLaws.Running.{between, among_words, declaring, Goes, ◌▸◌, one, stays, arriving, in_turn}
 use Rattle.resolve_laws.proofs.NameLaws.Saying.{Says, quietly_says}
-use Rattle.resolve_laws.proofs.NameLaws.Agreeing.{same_void, same_kind, same_first, same_none}
+use Rattle.resolve_laws.proofs.NameLaws.Agreeing.{same_void, same_kind, same_none}
 use Rattle.resolve_laws.proofs.NameLaws.Pieces.{listed_behind, lists_of, lists_push, pieces_make}
 
 -- the storage words of specifiers, and `inline`, behind others
@@ -343,21 +343,20 @@ module _ (u : Spelling) where
       p st t k b finished s ▸ pieces_make u d None s st t k b (declared_name d) t finished _
 
   pub type_name_says : (ws : SpecWords) (d : SomeDeclr) → SpecsLaw false ws → SomeDeclrLaw d
-      → Says u (type_name_with (words_tape false ws) (some_declr_tape d) (tokens.first_word ws))
+      → Says u (type_name_with (words_tape false ws) (some_declr_tape d) (first_word ws))
       (λ s. with_typed (words_named u false ws (base []) [] s)
       (λ t s. with_pieced (some_declr_named u d s) (λ ps s. type_named (place u (first_word ws)) (applied ps t) s)))
   type_name_says ws d p q =
       record { goes = named }
     where
       named : (st : State) (s : Names)
-          → Goes u (type_name_with (words_tape false ws) (some_declr_tape d) (tokens.first_word ws)) (between st s)
+          → Goes u (type_name_with (words_tape false ws) (some_declr_tape d) (first_word ws)) (between st s)
           (between st (with_typed (words_named u false ws (base []) [] s)
           (λ t s. with_pieced (some_declr_named u d s)
           (λ ps s. type_named (place u (first_word ws)) (applied ps t) s))))
       named st s =
-          rw (same_first ws)
-          (p st (base []) [] [] false s ▸ whole_declr d q st _ _ _ _ _ ▸ one u
-          (ops.Declr (declrs.TypeName (first_word ws))) _ (λ passed. refl))
+          p st (base []) [] [] false s ▸ whole_declr d q st _ _ _ _ _ ▸ one u
+          (ops.Declr (declrs.TypeName (first_word ws))) _ (λ passed. refl)
 
   -- a list without identifiers ends
   list_ends : (st : State) (t : CType) (k : List Keyword) (b : Bool) (name : Option Named) (m : CType)

@@ -12,9 +12,9 @@ use Rattle.tape_ops.specs.declared.op.Op.{Op}
 use Rattle.tape_ops.specs.declared.op.Op.TheVariants as ops
 use Rattle.tape_ops.specs.declared.declarator.DeclrOp.TheVariants as declrs
 use Rattle.tape_ops.specs.declared.specifier.SpecOp.TheVariants as specs
-use Rattle.c_tree.specs.Firsts as tokens
+use Rattle.c_tree.specs.Firsts.{qual_token}
 use Rattle.type_table.specs.Types.{Words, CType, base, function, CTypes, no_types, more_types}
-use Rattle.name_rules.specs.Spellings.{Place, Spelling, Named, annotation_at}
+use Rattle.name_rules.specs.Spellings.{Place, Spelling, Named}
 use Rattle.name_rules.specs.Scopes.{Names}
 use Rattle.name_rules.specs.Pieces.{types_in, decayed, Piece, to_pointer, to_function, piece_of, applied}
 use Rattle.name_rules.specs.NameSteps.State.{State}
@@ -24,7 +24,6 @@ use Rattle.type_rules.specs.Naming.{ellipsis, declr_named, some_declr_named}
 use Rattle.c_tape.specs.Tests.{has_ellipsis}
 use Rattle.c_tape.specs.Tape.{declr, qual_tape, quals_tape, pointer_words_tape, array_words_tape, dots_tape, pieces, some_pieces}
 use Rattle.resolve_laws.proofs.NameLaws.Running.{among_words, declaring, Goes, ◌▸◌, one, stays, arriving}
-use Rattle.resolve_laws.proofs.NameLaws.Agreeing.{same_qual}
 
 -- these types behind others
 abbrev pub listed_behind : List CType → CTypes → List CType
@@ -72,8 +71,7 @@ module _ (u : Spelling) where
   pub qual_goes : (q : Qual) (st : State) (t : CType) (w : Words) (storage : List Keyword) (b : Bool) (s : Names)
       → Goes u (qual_tape q) (among_words st t w storage b s) (among_words st t (w ++ annotation u q) storage b s)
   qual_goes q st t w storage b s =
-      arriving (one u (ops.Spec (specs.Word (tokens.qual_token q))) _ (λ passed. refl))
-      (ap (λ (token : ℕ). among_words st t (w ++ annotation_at u token) storage b s) (same_qual q))
+      one u (ops.Spec (specs.Word (qual_token q))) _ (λ passed. refl)
 
   -- words behind others
   behind : (st : State) (t : CType) (storage : List Keyword) (b : Bool) (s : Names) {ops : List Op} {before : State}

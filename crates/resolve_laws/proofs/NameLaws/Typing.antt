@@ -34,7 +34,7 @@ use Rattle.resolve_laws.specs.ShapeLaws.Laws.{ShapesAreLeft}
 use Rattle.type_rules.specs.Naming as names
 use Rattle.type_rules.specs.Naming.{Typed, Pieced, expr_named, words_named, some_declr_named, with_typed, with_pieced, auto_declrs_named, auto_named}
 use Rattle.type_rules.specs.Shapes.{shape_of}
-use Rattle.type_rules.specs.Tokens.{first_word}
+use Rattle.c_tree.specs.Firsts.{first_word}
 use Rattle.resolve_laws.proofs.NameLaws.Running.{between, among_words, declaring, heard, Goes, ◌▸◌, one, stays, run_parts}
 use Rattle.resolve_laws.proofs.NameLaws.Saying.{Says}
 use Rattle.resolve_laws.proofs.NameLaws.Forms.{WordLaw, SpecsLaw, SomeDeclrLaw, type_name_says}

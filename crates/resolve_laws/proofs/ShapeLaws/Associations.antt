@@ -6,7 +6,7 @@ use Rattle.type_table.specs.Types.{CType}
 use Rattle.name_rules.specs.Spellings.{Spelling, place}
 use Rattle.name_rules.specs.Scopes.{Names}
 use Rattle.name_rules.specs.Uses.{type_named_at}
-use Rattle.type_rules.specs.Tokens.{first_word}
+use Rattle.c_tree.specs.Firsts.{first_word}
 use Rattle.type_rules.specs.Shapes.{shape_of, is_zero, associations_of}
 use Rattle.name_rules.specs.ShapeSteps.State.{Operand, expression, named_type, State}
 use Rattle.name_rules.specs.ShapeSteps.Steps.{twice, associations}

@@ -9,7 +9,7 @@ use Rattle.tape_ops.specs.declared.statement.StmtOp.TheVariants as stmts
 use Rattle.tape_ops.specs.declared.initialiser.InitOp.TheVariants as inits
 use Rattle.c_tree.specs.Tree.{Expr, operation, call, arrow, prefix, generic, Assocs, Operator, comma, assign, cond, binary, no_expr, some_expr, Exprs, SpecWords, InitList, Params}
 use Rattle.c_syntax.specs.declared.parts.Identifier.{Identifier}
-use Rattle.c_tree.specs.Firsts as tape_tokens
+use Rattle.c_tree.specs.Firsts.{first_word}
 use Rattle.c_tape.specs.Tests.{says_none}
 use Rattle.c_tape.specs.Tape.{expr, form, init, stmt, prefix_tape, assoc_count, count, operator_tape, type_name_with, params_with, rule_of_list, quietly}
 use Rattle.type_table.specs.Types.{CType, base, void, struct, pointer, function}
@@ -17,7 +17,6 @@ use Rattle.name_rules.specs.Spellings.{place}
 use Rattle.name_rules.specs.Faults.{Fault, fault_where, not_pointer, no_member}
 use Rattle.name_rules.specs.Scopes.{Aggregate}
 use Rattle.name_rules.specs.Values.{Association, selected_shape, a_value, a_place, value, some_target, some_read_from, some_result_type, member_type, lacks_member, is_no_pointer}
-use Rattle.name_rules.specs.Uses.{type_named_at}
 use Rattle.name_rules.specs.Checks.{prefix_faults, call_faults, member_faults}
 use Rattle.type_rules.specs.Shapes.{shape_of, associations_of}
 use Rattle.type_rules.specs.Judging.{operator_faults, params_faults, untargeted_faults, list_faults}
@@ -29,7 +28,6 @@ use Rattle.resolve_laws.proofs.ShapeLaws.Lists.{drop_above, drop_one_more}
 use Rattle.resolve_laws.proofs.ShapeLaws.Stacks.{operand_of, with_expr, with_middle, arguments_on, with_arguments, under_arguments, assocs_on, with_assocs, under_assocs, assocs_kept, with_value, type_at_words, leaves_in, with_leaves, declaring}
 use Rattle.resolve_laws.proofs.ShapeLaws.Idle.{either, same_count, none_said}
 use Rattle.resolve_laws.proofs.ShapeLaws.Rules.{list_rule_goes, list_split}
-use Rattle.resolve_laws.proofs.NameLaws.Agreeing.{same_first}
 
 -- what is read from a place of a struct is of the struct's type
 
@@ -203,12 +201,11 @@ module _ (k : Over) where
   -- a type name, by what its words and its declarator do
   pub type_name_goes : {words d : List Op} {fs gs : List Fault} (ws : SpecWords) (name : Option ℕ) →
       Goes k words as_is as_is fs → Goes k d (declaring None None) (declaring name None) gs
-      → Goes k (type_name_with words d (tape_tokens.first_word ws)) as_is (with_value (type_at_words k ws)) (fs ++ gs)
+      → Goes k (type_name_with words d (first_word ws)) as_is (with_value (type_at_words k ws)) (fs ++ gs)
   type_name_goes ws name p q =
       reaching _ (same (join (join (join p (one [] (λ st. refl))) q) (one [] (λ st. refl)))
       (omega (arith, total_append k.weight)))
-      (λ st. ap (λ (token : ℕ). with_value (type_named_at k.names.type_names (place k.spelling token)) st)
-      (same_first ws))
+      (λ st. refl)
 
   -- initialisers in braces
 

@@ -23,7 +23,6 @@ use Rattle.type_rules.specs.Shapes.{shape_of, is_zero, associations_of}
 use Rattle.name_rules.specs.ShapeSteps.Steps.{twice, associations}
 use Rattle.name_rules.specs.ShapeSteps.State.{Operand, named_type, expression, State, operand_put, opened, closed, shape_at, type_at, type_of_operand, first_operand, operands_below}
 use Rattle.resolve_laws.specs.ShapeLaws.Laws as laws
-use Rattle.resolve_laws.proofs.NameLaws.Agreeing.{same_first}
 use Rattle.resolve_laws.proofs.ShapeLaws.Associations as selected
 use Rattle.row_laws.proofs.StartLaws.Found.{Over, behind, run_append}
 
@@ -212,10 +211,8 @@ module _ (k : Over) where
       (run_append k (specs_with (words_tape false ws)) (some_declr_tape d) st
       ∙ ap (λ (it : State). behind k it (some_declr_tape d))
       (run_append k (words_tape false ws) (spec specs.SpecsEnd) st))
-      ∙ (ap (operand_put 0 (named_type (type_named_at k.names.type_names (place k.spelling (first_word ws)))))
-      (declared_left ws d st)
-      ∙ ap (λ (token : ℕ). operand_put 0 (named_type (type_named_at k.names.type_names (place k.spelling token))) st)
-      (same_first ws)))
+      ∙ ap (operand_put 0 (named_type (type_named_at k.names.type_names (place k.spelling (first_word ws)))))
+      (declared_left ws d st))
 
   assoc_left : (x : Assoc) (st : State) → behind k st (assoc_tape x) ≡ record st { operands = assoc_on x st.operands }
   assoc_left (typed_assoc ws d colon e) st =
