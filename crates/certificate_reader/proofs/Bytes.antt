@@ -1,52 +1,16 @@
--- Texts that lack a byte, and the words and the lines that are cut at it.
-use Rattle.std.proofs.Common.{◌≡◌, ℕ, zero, suc, ◌-◌, ◌/◌, ◌%◌, ◌<◌, ◌==◌, Bool, true, false, ◌||◌, List, [], ◌∷◌, ◌++◌, length, take, drop, slice_index, Some, None, codes, All, refl, sym, ◌∙◌, ap, arith, cond, decimal, append_assoc, length-append, if◌then◌else◌}
+-- The words and the lines of a text that are cut at a byte that they lack.
+use Rattle.std.proofs.Common.{◌≡◌, ℕ, ◌-◌, ◌==◌, Bool, true, false, List, [], ◌∷◌, ◌++◌, length, take, drop, slice_index, Some, None, codes, refl, sym, ◌∙◌, ap, arith, cond, append_assoc, length-append, if◌then◌else◌}
 use Rattle.std.proofs.lemmas.List.{take-append-drop}
 use Rattle.std.proofs.lemmas.Slice.Eq.{bytes_eq-Decides}
-use Rattle.std.proofs.lemmas.List.Elements.{All-nil, All-cons}
 use Rattle.std.proofs.lemmas.List.Splits.{slice_split_at, slice_split_none, join_with_byte-slice_split}
 use Rattle.std.specs.List.{slice_split, join_with_byte}
 use Rattle.std.specs.Str.{bytes_eq}
-use Rattle.std.specs.Fmt.{digits, digits_onto, digit_glyph}
-use Rattle.std.proofs.lemmas.Bool.{or_parts, or_from}
 use Rattle.path_checker.specs.Lines.{number_of, behind}
+use Rattle.path_checker.proofs.Lacking.{has, all_lack}
 use Rattle.certificate_text.specs.Text.{line}
 use Rattle.certificate_reader.specs.declared.lines.Line.TheVariants.{Other}
 use Rattle.certificate_reader.specs.Lines.{by_letter, end_in, set_kind, pair_kind, line_kind, lines_in, lines_of, words}
 use Rattle.certificate_reader.proofs.WordLemmas.{split_parts}
-
-module _ (c : ℕ) where
-  abbrev pub has : List ℕ → Bool
-  has [] = false
-  has (b ∷ bs) = b == c || has bs
-
-  pub lacks_append : (xs ys : List ℕ) → has xs ≡ false → has ys ≡ false → has (xs ++ ys) ≡ false
-  lacks_append [] ys p q = q
-  lacks_append (x ∷ xs) ys p q =
-      let parts = or_parts (x == c) (has xs) p in
-      or_from (x == c) (has (xs ++ ys)) parts.0 (lacks_append xs ys parts.1 q)
-
-  pub all_lack : (text : List ℕ) → has text ≡ false → All (λ b. (b == c) ≡ false) text
-  all_lack [] p = All-nil (λ b. (b == c) ≡ false)
-  all_lack (b ∷ bs) p =
-      let parts = or_parts (b == c) (has bs) p in
-      All-cons (λ b. (b == c) ≡ false) b bs parts.0 (all_lack bs parts.1)
-
-  glyph_lacks : (d : ℕ) → c < 48 → d < 10 → (digit_glyph false d == c) ≡ false
-  glyph_lacks d low small = grind arith
-
-  onto_lacks : (k n : ℕ) (acc : List ℕ) → c < 48 → has acc ≡ false → has (digits_onto k 10 false n acc) ≡ false
-  onto_lacks zero n acc low p = p
-  onto_lacks (suc k) n acc low p =
-      let small : n % 10 < 10 = omega arith in
-      let more : has (digit_glyph false (n % 10) ∷ acc) ≡ false =
-      or_from _ (has acc) (glyph_lacks (n % 10) low small) p in
-      elim (n / 10 == 0) as (λ b. has (cond b (digit_glyph false (n % 10) ∷ acc)
-      (digits_onto k 10 false (n / 10) (digit_glyph false (n % 10) ∷ acc))) ≡ false)
-      [ true ↦ more | false ↦ onto_lacks k (n / 10) (digit_glyph false (n % 10) ∷ acc) low more ]
-
-  pub decimal_lacks : (n : ℕ) → c < 48 → has (decimal n) ≡ false
-  unfolding digits
-  decimal_lacks n low = onto_lacks 64 n [] low refl
 
 -- words that have no space, cut apart
 pub two_words : (a b : List ℕ) → has 32 a ≡ false → has 32 b ≡ false → words (a ++ 32 ∷ b) ≡ a ∷ b ∷ []

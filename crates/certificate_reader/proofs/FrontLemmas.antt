@@ -11,8 +11,9 @@ use Rattle.certificate_reader.specs.declared.lines.Line.{Line}
 use Rattle.certificate_reader.specs.declared.lines.Line.TheVariants.{Set, Pair}
 use Rattle.certificate_reader.specs.Lines.{line_kind, words, by_letter, end_in, bits_of, set_kind, pair_kind}
 use Rattle.certificate_reader.specs.Fronts.{BeginsWith, EndsAt, BeginsWords, BeginsLine}
-use Rattle.certificate_reader.proofs.Bytes.{has, lacks_append, all_lack, two_words, three_words, first_part, end_in-last}
-use Rattle.certificate_reader.proofs.Decimals.{append_behind}
+use Rattle.path_checker.proofs.Lacking.{has, lacks_append, all_lack}
+use Rattle.path_checker.proofs.Decimals.{append_behind}
+use Rattle.certificate_reader.proofs.Bytes.{two_words, three_words, first_part, end_in-last}
 
 -- a word of bytes from the digit 0 on has none below
 bare_lacks : (c : ℕ) (xs : List ℕ) → c < 48 → All (λ b. 48 ≤ b) xs → has c xs ≡ false

@@ -1,5 +1,5 @@
 -- The numbers of numerals, read no higher than 2^128 - 1.
-use Rattle.std.proofs.Common.{◌≡◌, ℕ, ◌+◌, ◌*◌, ◌-◌, ◌<◌, ◌^◌, min, true, false, List, [], ◌∷◌, Some, None, option_map, length, get_or, drop, drop-cons, add-one, refl, sym, ◌∙◌, ap, arith, cond}
+use Rattle.std.proofs.Common.{◌≡◌, ℕ, ◌+◌, ◌*◌, ◌-◌, ◌^◌, min, true, false, List, [], ◌∷◌, Some, None, option_map, refl, sym, ◌∙◌, ap, arith, cond}
 use Rattle.std.specs.Char.{is_ascii_digit}
 use Rattle.path_checker.specs.Lines.{number_behind}
 
@@ -20,8 +20,3 @@ number_behind-capped (d ∷ ds) v w same =
     (λ b. option_map capped (cond b (number_behind (10 * v + (d - 48)) ds) None)
     ≡ option_map capped (cond b (number_behind (10 * w + (d - 48)) ds) None))
     [ true ↦ number_behind-capped ds _ _ further | false ↦ refl ]
-
--- one more digit
-pub number_behind-digit : (ds : List ℕ) (i v : ℕ) → i < length ds → is_ascii_digit (get_or ds i 0) ≡ true →
-    number_behind v (drop i ds) ≡ number_behind (10 * v + (get_or ds i 0 - 48)) (drop (i + 1) ds)
-number_behind-digit ds i v below digit = rw (drop-cons ds i 0, add-one, digit) refl

@@ -10,8 +10,10 @@ use Rattle.certificate_reader.specs.declared.lines.Line.{Line}
 use Rattle.certificate_reader.specs.declared.lines.Line.TheVariants.{Certificate, Lattice, Set, Pair, Other}
 use Rattle.certificate_reader.specs.Lines.{end_of, by_letter, end_in, bits_of, set_line, pair_line, lattice_line, set_kind, pair_kind, words, by_pair, by_set, by_lattice, line_kind, lines_of}
 use Rattle.certificate_reader.specs.Grammar.{set_lines, pair_lines, part_lines, lines_of_parts}
-use Rattle.certificate_reader.proofs.Bytes.{has, lacks_append, decimal_lacks, two_words, three_words, joined, line_first, last_apart, end_in-last, behind_is, set_begins, pair_begins}
-use Rattle.certificate_reader.proofs.Decimals.{decimal_is_read, decimal_of}
+use Rattle.path_checker.proofs.Lacking.{has, lacks_append, decimal_lacks}
+use Rattle.path_checker.proofs.Decimals.{decimal_is_read}
+use Rattle.certificate_reader.proofs.Bytes.{two_words, three_words, joined, line_first, last_apart, end_in-last, behind_is, set_begins, pair_begins}
+use Rattle.certificate_reader.proofs.Decimals.{decimal_of}
 
 -- names that lines say exactly
 abbrev pub most_names : ℕ

@@ -1,6 +1,8 @@
 mod Stepping
 mod Splits
-mod Numbers
+pub mod Numbers
+pub mod Decimals
+pub mod Lacking
 mod Reading
 mod WholeReports
 mod Placed

@@ -4,7 +4,7 @@ use Rattle.std.proofs.lemmas.List.Splits.{slice_split_at}
 use Rattle.std.specs.List.{slice_split, onto_first}
 use Rattle.path_checker.specs.Lines.{line_kind, lines_in, lines_of}
 use Rattle.annotate.specs.Texts.{line}
-use Rattle.report_laws.proofs.Bytes.{has, all_lack}
+use Rattle.path_checker.proofs.Lacking.{has, all_lack}
 
 -- a list has a first part
 pub parts_of : (test : ℕ → Bool) (xs : List ℕ)

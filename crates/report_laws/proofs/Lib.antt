@@ -1,5 +1,3 @@
-mod Bytes
-mod Numerals
 mod ReadBack
 mod Cutting
 mod LineKinds

@@ -4,8 +4,8 @@ use Rattle.std.proofs.lemmas.List.Splits.{slice_split_at}
 use Rattle.std.specs.List.{slice_split}
 use Rattle.path_checker.specs.declared.lines.Line.TheVariants.{Rejected, Error, Sub, Path, Take, Through}
 use Rattle.path_checker.specs.Lines.{capped, line_kind, behind, step_kind, by_sub, sub_line, through_line, take_line, first_word}
-use Rattle.report_laws.proofs.Bytes.{all_lack, decimal_lacks}
-use Rattle.report_laws.proofs.Numerals.{decimal_is_read, decimal_writes}
+use Rattle.path_checker.proofs.Lacking.{all_lack, decimal_lacks}
+use Rattle.path_checker.proofs.Decimals.{decimal_is_read, decimal_writes}
 use Rattle.report_laws.proofs.Cutting.{parts_of}
 
 capped_same : (n : ℕ) → n < 2 ^ 32 - 1 → capped n ≡ n

@@ -11,7 +11,7 @@ use Rattle.qual_types.specs.declared.position.Step.TheVariants.{Inside, Param, R
 use Rattle.qual_types.specs.Positions.{PositionView}
 use Rattle.annotate.specs.Texts.{UnitText, Scene, unit_in, file_text, place_at, place_in, bytes_in, place_text, name_text, step_mark, marks_text, position_text, var_text, name_in, elem_text, link_text}
 use Rattle.report_laws.specs.Scenes.{HasNoFeeds}
-use Rattle.report_laws.proofs.Bytes.{has, lacks_of, lacks_append, decimal_lacks}
+use Rattle.path_checker.proofs.Lacking.{has, lacks_of, lacks_append, decimal_lacks}
 
 abbrev pub Free : List ℕ → Type 0
 Free text = has 10 text ≡ false

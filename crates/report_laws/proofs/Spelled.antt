@@ -8,7 +8,7 @@ use Rattle.c_lexer.specs.Reading.Reaches.{begins, skips, takes}
 use Rattle.c_lexer.specs.Tokens.{Lexed, IsSpelled, start_of, end_of, text_of}
 use Rattle.c_lexer.proofs.ReachLemmas.{pushed}
 use Rattle.report_laws.specs.Scenes.{TokensHaveNoFeed}
-use Rattle.report_laws.proofs.Bytes.{has, none_of}
+use Rattle.path_checker.proofs.Lacking.{has, none_of}
 use Rattle.report_laws.proofs.Tokens.{token_free}
 
 abbrev TokensFree : List ℕ → List Token → Type 0

@@ -8,7 +8,7 @@ use Rattle.c_words.specs.declared.kinds.Punct.{Punct}
 use Rattle.c_lexer.specs.Words.{signs, sign_kind}
 use Rattle.c_lexer.specs.Spelling.{is_letter, is_word_byte, is_word, is_digit, goes_on, is_number_tail, is_digits, is_number, is_quoted_tail, is_quoted, is_prefixed, is_char, is_text, is_dollar, is_sign, is_token}
 use Rattle.c_lexer.proofs.SignLemmas.{no_sign}
-use Rattle.report_laws.proofs.Bytes.{has, lacks_append}
+use Rattle.path_checker.proofs.Lacking.{has, lacks_append}
 
 -- what passes a test that a line feed does not pass is none
 no_feed : (test : ℕ → Bool) (c : ℕ) → test 10 ≡ false → test c ≡ true → (c == 10) ≡ false

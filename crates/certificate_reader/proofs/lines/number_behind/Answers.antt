@@ -1,7 +1,8 @@
 use Rattle.std.proofs.Common.{◌≡◌, ◌+◌, ◌*◌, ◌-◌, ◌<◌, true, length, get_or, drop, option_map, arith, sym, ◌∙◌, ap}
 use Rattle.std.proofs.lemmas.Grind.{common_steps}
 use Rattle.std.specs.Char.{is_ascii_digit}
-use Rattle.certificate_reader.proofs.Numerals.{capped, number_behind-capped, number_behind-digit}
+use Rattle.path_checker.proofs.Numbers.{number_behind-digit}
+use Rattle.certificate_reader.proofs.Numerals.{capped, number_behind-capped}
 use Rattle.certificate_reader.proofs.lines.number_behind.Goals as goal
 
 -- one more digit is read behind the number so far, up to the greatest number of 128 bits

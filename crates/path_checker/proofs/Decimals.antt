@@ -1,4 +1,4 @@
--- What is read of a number that is written.
+-- What is read of a number that is written in decimals.
 use Rattle.std.proofs.Common.{◌≡◌, ℕ, ◌+◌, ◌-◌, ◌*◌, ◌/◌, ◌%◌, ◌^◌, ◌<◌, ◌≤◌, ◌==◌, ◌⊎◌, inl, inr, true, false, List, [], ◌∷◌, ◌++◌, Some, None, refl, sym, ◌∙◌, ap, arith, cond, ne_eqb, decimal}
 use Rattle.std.proofs.lemmas.Fmt.{decimal_by_steps}
 use Rattle.std.specs.Char.{is_ascii_digit}
@@ -15,11 +15,12 @@ pub record Writes (n : ℕ) (ds : List ℕ) : Type 0 where
   pub alone : (rest ≡ []) ⊎ (48 < first)
   pub leads : 0 < n → 48 < first
 
-digit_is : (k : ℕ) → k < 10 → is_ascii_digit (48 + k) ≡ true
+-- a digit of a number is one
+pub digit_is : (k : ℕ) → k < 10 → is_ascii_digit (48 + k) ≡ true
 digit_is k small = grind arith
 
 -- a digit behind digits that say a number makes ten times this and the digit
-append_behind : (v w : ℕ) (ds : List ℕ) (e : ℕ) → number_behind v ds ≡ Some w → is_ascii_digit e ≡ true
+pub append_behind : (v w : ℕ) (ds : List ℕ) (e : ℕ) → number_behind v ds ≡ Some w → is_ascii_digit e ≡ true
     → number_behind v (ds ++ e ∷ []) ≡ Some (10 * w + (e - 48))
 append_behind v w [] e is digit = let same : v ≡ w = cc in rw (digit, same) refl
 append_behind v w (d ∷ ds) e is digit =
@@ -63,7 +64,7 @@ pub decimal_writes : (n : ℕ) → n < 2 ^ 64 → Writes n (decimal n)
 decimal_writes n fits = decimal_by_steps Writes one_digit more_digits n fits
 
 -- a numeral that is 0 alone or does not begin with 0 is read as the number of its digits
-is_read : (d : ℕ) (rest : List ℕ) → (rest ≡ []) ⊎ (48 < d) → number_of (d ∷ rest) ≡ number_behind 0 (d ∷ rest)
+pub is_read : (d : ℕ) (rest : List ℕ) → (rest ≡ []) ⊎ (48 < d) → number_of (d ∷ rest) ≡ number_behind 0 (d ∷ rest)
 is_read d [] alone = refl
 is_read d (e ∷ es) (inl is) = absurd cc
 is_read d (e ∷ es) (inr above) =
